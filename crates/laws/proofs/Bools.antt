@@ -1,0 +1,72 @@
+-- Tests joined, negated and chosen by.
+-- Assumes nothing.
+use mathlib.Core.Path.{_≡_, refl, sym, _∙_}
+use mathlib.Core.Bool.{Bool, true, false, not, _&&_, _||_, cond}
+
+module _ {ℓ} {A : Type ℓ} where
+  pub cond-true : (b : Bool) (x y : A) → b ≡ true → cond b x y ≡ x
+  cond-true b x y e = rw e
+
+  pub cond-false : (b : Bool) (x y : A) → b ≡ false → cond b x y ≡ y
+  cond-false b x y e = rw e
+
+  -- both arms alike
+  pub cond-same : (b : Bool) (x : A) → cond b x x ≡ x
+  cond-same true x = refl
+  cond-same false x = refl
+
+-- a function goes into the arms
+pub cond-ap {ℓ ℓ′} : {A : Type ℓ} {B : Type ℓ′} (f : A → B) (b : Bool) (x y : A) → f (cond b x y) ≡ cond b (f x) (f y)
+cond-ap f true x y = refl
+cond-ap f false x y = refl
+
+-- what a callee's answer r says of the test b that it is
+pub via : {r b v : Bool} → r ≡ b → r ≡ v → b ≡ v
+via e h = sym e ∙ h
+
+pub and-true : (a b : Bool) → a ≡ true → b ≡ true → (a && b) ≡ true
+and-true a b p q = rw p q
+
+pub and-left : (a b : Bool) → (a && b) ≡ true → a ≡ true
+and-left true b e = refl
+and-left false b e = e
+
+pub and-right : (a b : Bool) → (a && b) ≡ true → b ≡ true
+and-right true b e = e
+and-right false true e = refl
+and-right false false e = e
+
+pub and-false-left : (a b : Bool) → a ≡ false → (a && b) ≡ false
+and-false-left a b p = rw p
+
+pub and-false-right : (a b : Bool) → b ≡ false → (a && b) ≡ false
+and-false-right true b q = q
+and-false-right false b q = refl
+
+pub or-true-left : (a b : Bool) → a ≡ true → (a || b) ≡ true
+or-true-left a b p = rw p
+
+pub or-true-right : (a b : Bool) → b ≡ true → (a || b) ≡ true
+or-true-right true b q = refl
+or-true-right false b q = q
+
+pub or-false : (a b : Bool) → a ≡ false → b ≡ false → (a || b) ≡ false
+or-false a b p q = rw p q
+
+pub or-false-left : (a b : Bool) → (a || b) ≡ false → a ≡ false
+or-false-left true b e = e
+or-false-left false b e = refl
+
+pub or-false-right : (a b : Bool) → (a || b) ≡ false → b ≡ false
+or-false-right true true e = e
+or-false-right true false e = refl
+or-false-right false b e = e
+
+-- a test is true or false
+pub data Known (b : Bool) : Type 0 where
+  is-true : b ≡ true → Known b
+  is-false : b ≡ false → Known b
+
+pub known : (b : Bool) → Known b
+known true = is-true refl
+known false = is-false refl

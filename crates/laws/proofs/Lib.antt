@@ -1,0 +1,6 @@
+-- Laws that several crates' proofs cite.
+pub mod Rules
+pub mod Bools
+pub mod Every
+pub mod Tables
+pub mod Fill

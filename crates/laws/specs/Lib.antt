@@ -1,0 +1,3 @@
+-- Definitions that the crates' own definitions are made of: bounded tests and tables.
+pub mod All
+pub mod Table
