@@ -4,3 +4,4 @@ pub mod Bools
 pub mod Every
 pub mod Tables
 pub mod Fill
+pub mod Offset
