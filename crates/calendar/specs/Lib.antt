@@ -1,0 +1,3 @@
+-- The day and its slots.
+pub mod Dates
+pub mod Slots
