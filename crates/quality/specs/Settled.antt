@@ -25,13 +25,19 @@ internal dds s =
     base : List (List Cell)
     base = set (set s dewPoint (dewColumn (column s temperature) (column s dewPoint))) wind (windColumn dds (column s wind))
 
--- 3. "Time, T, D, P"; "for T" it mends
-unfoldable pub time : List (List Cell) → List (List Cell)
-time s = table 9 (λ e. cond (leb e pressure) (between (timeCell (eqb e temperature)) (column s e)) (column s e))
+-- 3. "Time, T, D, P"; "for T" it mends. On the column of element e
+unfoldable pub timeOf : ℕ → List Cell → List Cell
+timeOf e xs = cond (leb e pressure) (between (timeCell (eqb e temperature)) xs) xs
 
--- 4. "Fill, T, D, P, W"
+unfoldable pub time : List (List Cell) → List (List Cell)
+time s = table 9 (λ e. timeOf e (column s e))
+
+-- 4. "Fill, T, D, P, W". On the column of element e
+unfoldable pub fillOf : ℕ → List Cell → List Cell
+fillOf e xs = cond (leb e wind) (between fillCell xs) xs
+
 unfoldable pub fill : List (List Cell) → List (List Cell)
-fill s = table 9 (λ e. cond (leb e wind) (between fillCell (column s e)) (column s e))
+fill s = table 9 (λ e. fillOf e (column s e))
 
 -- the checked sheet of a station of that climate row in that season, from each slot's dd and the raw sheet
 unfoldable pub settled : ℕ → Bool → List ℕ → List (List Cell) → List (List Cell)

@@ -24,37 +24,44 @@ rangeCell l c =
 unfoldable pub dewCell : Cell → Cell → Cell
 dewCell t d = cond (missing t || missing d) d (cond (ltZ (t .value) (d .value)) (discarded 2) d)
 
+abbrev pub isZero : ℤ → Bool
+isZero z = eqb (natAbs z) 0
+
 -- "dd 0 with W above 0, or dd 1 to 36 with W 0: W flag 4."
 unfoldable pub windCell : ℕ → Cell → Cell
 windCell dd w =
     cond (missing w) w
     (cond ((eqb dd 0 && ltZ (pos 0) (w .value)) || (leb 1 dd && leb dd 36 && isZero (w .value))) (flagged 4 w) w)
-  where
-    isZero : ℤ → Bool
-    isZero z = eqb (natAbs z) 0
 
 -- "X of slot 4 below M of slot 0": the day's maximum below the night's minimum
 unfoldable pub crossed : Cell → Cell → Bool
 crossed x m = not (missing x) && not (missing m) && ltZ (x .value) (m .value)
 
 -- ---- 3. Time
--- "differs .. by more than 100"; "within 50"
+abbrev pub apart : ℤ → ℤ → ℕ
+apart x y = natAbs (x -ℤ y)
+
+-- "differs .. by more than 100"
 abbrev pub far : ℤ → ℤ → Bool
-far x y = ltb 100 (natAbs (x -ℤ y))
+far x y = ltb 100 (apart x y)
 
+-- "within 50"
 abbrev pub near : ℤ → ℤ → Bool
-near x y = leb (natAbs (x -ℤ y)) 50
+near x y = leb (apart x y) 50
 
--- "both neighbours present: if the value differs from each by more than 100, then for T, if its negative is within 50 of each, it becomes that
--- (state 2, flag 3); else discard, flag 3". a and b are the neighbours in time, `mends` says whether the element is T
+-- ".. then for T, if its negative is within 50 of each, it becomes that (state 2, flag 3); else discard, flag 3": a and b are the neighbours
+-- in time, `mends` says whether the element is T
+unfoldable pub oddCell : Bool → Cell → Cell → Cell → Cell
+oddCell mends a x b =
+    cond (mends && near (negℤ (x .value)) (a .value) && near (negℤ (x .value)) (b .value))
+    (record { state = 2; flag = 3; value = negℤ (x .value) })
+    (discarded 3)
+
+-- "both neighbours present: if the value differs from each by more than 100, then .."
 unfoldable pub timeCell : Bool → Cell → Cell → Cell → Cell
 timeCell mends a x b =
     cond (missing a || missing x || missing b) x
-    (cond (far (x .value) (a .value) && far (x .value) (b .value))
-    (cond (mends && near (negℤ (x .value)) (a .value) && near (negℤ (x .value)) (b .value))
-    (record { state = 2; flag = 3; value = negℤ (x .value) })
-    (discarded 3))
-    x)
+    (cond (far (x .value) (a .value) && far (x .value) (b .value)) (oddCell mends a x b) x)
 
 -- ---- 4. Fill: "missing, with neighbours a, b present after step 3: floor((a + b + 1) / 2), state 3, flag kept"
 unfoldable pub fillCell : Cell → Cell → Cell → Cell
