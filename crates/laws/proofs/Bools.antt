@@ -1,6 +1,6 @@
 -- Tests joined, negated and chosen by.
 -- Assumes nothing.
-use mathlib.Core.Path.{_≡_, refl, sym, _∙_}
+use mathlib.Core.Path.{_≡_, refl, sym, _∙_, ap₂}
 use mathlib.Core.Bool.{Bool, true, false, not, _&&_, _||_, cond}
 
 module _ {ℓ} {A : Type ℓ} where
@@ -9,6 +9,13 @@ module _ {ℓ} {A : Type ℓ} where
 
   pub cond-false : (b : Bool) (x y : A) → b ≡ false → cond b x y ≡ y
   cond-false b x y e = rw e
+
+  -- the same, as a rule is met: by the arm that is taken, or further on
+  pub took : (b : Bool) (x y : A) → b ≡ true → x ≡ cond b x y
+  took b x y e = rw e
+
+  pub skip : (b : Bool) (x y z : A) → b ≡ false → z ≡ y → z ≡ cond b x y
+  skip b x y z e h = rw e h
 
   -- both arms alike
   pub cond-same : (b : Bool) (x : A) → cond b x x ≡ x
@@ -23,6 +30,13 @@ cond-ap f false x y = refl
 -- what a callee's answer r says of the test b that it is
 pub via : {r b v : Bool} → r ≡ b → r ≡ v → b ≡ v
 via e h = sym e ∙ h
+
+-- two answers joined are the two tests joined
+pub or-eq : {r s a b : Bool} → r ≡ a → s ≡ b → (r || s) ≡ (a || b)
+or-eq p q = ap₂ _||_ p q
+
+pub and-eq : {r s a b : Bool} → r ≡ a → s ≡ b → (r && s) ≡ (a && b)
+and-eq p q = ap₂ _&&_ p q
 
 pub and-true : (a b : Bool) → a ≡ true → b ≡ true → (a && b) ≡ true
 and-true a b p q = rw p q
@@ -70,3 +84,8 @@ pub data Known (b : Bool) : Type 0 where
 pub known : (b : Bool) → Known b
 known true = is-true refl
 known false = is-false refl
+
+-- what holds of both arms holds of the choice
+pub cond-keeps {ℓ} : {A : Type ℓ} (P : A → Type 0) (b : Bool) {x y : A} → P x → P y → P (cond b x y)
+cond-keeps P true p q = p
+cond-keeps P false p q = q

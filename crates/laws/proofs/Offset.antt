@@ -8,13 +8,13 @@
 use mathlib.Core.Path.{_≡_, refl, sym, _∙_, ap, ap₂, subst}
 use mathlib.Core.Logic.{_⊎_, inl, inr, ⊎-elim}
 use mathlib.Core.Bool.{Bool, true, false}
-use Prim.Native.Nat.{ℕ, zero, suc, _+_, _-_, _/_, _<_, _≤_}
-use native.Mathlib.Decide.{decLt}
+use Prim.Native.Nat.{ℕ, suc, _+_, _-_, _/_, _<_, _≤_}
+use native.Mathlib.Decide.{decLt, ℕ-discrete}
 use native.Mathlib.Omega.{arith}
-use lib.Dec.{ltb}
+use lib.Dec.{ltb, eqb}
 use lib.IntN.{ℤ, pos, negsuc, negℤ, natAbs, subℕ, _+ℤ_, _-ℤ_, +ℤ-assoc, +ℤ-comm, +ℤ-idl, +ℤ-invl, negℤ-+ℤ, negℤ-negℤ}
 use lib.Signed.{ltZ, shrZ}
-use borrow.Author.Tests.{lt-ltb, le-ltb}
+use borrow.Author.Tests.{lt-ltb, le-ltb, eq-eqb, ne-eqb}
 use Rattle.laws.specs.Offset.{value}
 use Rattle.laws.proofs.Bools.{cond-true, cond-false}
 
@@ -37,6 +37,13 @@ pub ltb-agrees : (a b c d : ℕ) → (a < b → c < d) → (b ≤ a → d ≤ c)
 ltb-agrees a b c d f g =
     ⊎-elim (λ h. lt-ltb c d (f h) ∙ sym (lt-ltb a b h)) (λ h. le-ltb c d (g h) ∙ sym (le-ltb a b h)) (side a b)
 
+pub eqb-agrees : (a b c d : ℕ) → (a ≡ b → c ≡ d) → (c ≡ d → a ≡ b) → eqb c d ≡ eqb a b
+eqb-agrees a b c d f g = go (ℕ-discrete a b)
+  where
+    go : Dec (a ≡ b) → eqb c d ≡ eqb a b
+    go (yes e) = eq-eqb c d (f e) ∙ sym (eq-eqb a b e)
+    go (no n) = ne-eqb c d (λ e. n (g e)) ∙ sym (ne-eqb a b n)
+
 pub order : (a b : ℕ) → ltZ (value a) (value b) ≡ ltb a b
 order a b = go (side a 32768) (side b 32768)
   where
@@ -48,7 +55,7 @@ order a b = go (side a 32768) (side b 32768)
 
 -- ---- differences
 pub sub-is : (a b : ℕ) → subℕ a b ≡ pos a -ℤ pos b
-sub-is a zero = sub-above a 0 (omega arith) ∙ ap pos (omega arith)
+sub-is a ℕ.zero = sub-above a 0 (omega arith) ∙ ap pos (omega arith)
 sub-is a (suc b) = refl
 
 -- (x − o) − (y − o) is x − y
@@ -117,3 +124,51 @@ size a h k = rw (size-sub a 32768) (omega arith)
 -- and only such a one does
 pub sized : (a : ℕ) → natAbs (value a) ≤ 32767 → 1 ≤ a
 sized a h = let h′ : (a - 32768) + (32768 - a) ≤ 32767 = rw (size-sub a 32768) at h in omega arith
+
+-- ---- 0 is 32768
+pub zero : (a : ℕ) → eqb (natAbs (value a)) 0 ≡ eqb a 32768
+zero a = rw (size-sub a 32768) (eqb-agrees a 32768 ((a - 32768) + (32768 - a)) 0 (λ e. omega arith) (λ e. omega arith))
+
+-- ---- each value of −32767 to 32767 is kept as a number
+pub record Kept (z : ℤ) : Type 0 where
+  pub code : ℕ
+  pub least : 1 ≤ code
+  pub most : code < 65536
+  pub stands : value code ≡ z
+
+pub kept : (z : ℤ) → natAbs z ≤ 32767 → Kept z
+kept (pos n) h =
+    record {
+      code = 32768 + n;
+      least = omega arith;
+      most = omega arith;
+      stands = sub-above (32768 + n) 32768 (omega arith) ∙ ap pos (omega arith);
+    }
+kept (negsuc n) h =
+    record {
+      code = 32767 - n;
+      least = omega arith;
+      most = omega arith;
+      stands = sub-below (32767 - n) 32768 (omega arith) ∙ ap negsuc (omega arith);
+    }
+
+-- the negative and the middle stay in that range
+pub size-negative : (z : ℤ) → natAbs (negℤ z) ≡ natAbs z
+size-negative (pos ℕ.zero) = refl
+size-negative (pos (suc n)) = refl
+size-negative (negsuc n) = refl
+
+pub size-middle : (x y : ℤ) → natAbs x ≤ 32767 → natAbs y ≤ 32767 → natAbs (shrZ (x +ℤ y +ℤ pos 1) 2) ≤ 32767
+size-middle x y h k = go (kept x h) (kept y k)
+  where
+    go : Kept x → Kept y → natAbs (shrZ (x +ℤ y +ℤ pos 1) 2) ≤ 32767
+    go p q =
+        let a = p .code in
+        let b = q .code in
+        let l : 1 ≤ a = p .least in
+        let m : 1 ≤ b = q .least in
+        let u : a < 65536 = p .most in
+        let v : b < 65536 = q .most in
+        subst (λ (z : ℤ). natAbs z ≤ 32767)
+        (middle a b ∙ ap₂ (λ (s t : ℤ). shrZ (s +ℤ t +ℤ pos 1) 2) (p .stands) (q .stands))
+        (size ((a + b + 1) / 2) (omega arith) (omega arith))

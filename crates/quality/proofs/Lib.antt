@@ -1,0 +1,6 @@
+-- Laws of this crate's definitions that its proofs, and those of the crates above, cite.
+pub mod Columns
+pub mod Between
+pub mod Sheets
+pub mod Crossing
+pub mod Validity

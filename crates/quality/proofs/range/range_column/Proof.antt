@@ -1,0 +1,64 @@
+use borrow.Author.Needs.{needs}
+use mathlib.Core.Path.{_∙_, ap}
+use Prim.Native.Nat.{_-_}
+use Rattle.laws.proofs.Fill.{Done}
+use Rattle.laws.proofs.Fill as Fill
+use Rattle.quality.specs.Cell.{slot, none}
+use Rattle.quality.specs.Coded.{cells, limitsOf}
+use Rattle.quality.specs.Steps.{rangeCell, rangeColumn}
+use Rattle.quality.proofs.Columns.{length-cells}
+use Rattle.quality.proofs.range.range_column.Statement.{statement}
+use Rattle.quality.proofs.range.range_column.Tie as tie
+use Rattle.quality.proofs.range.range_column.Reads as reads
+use Rattle.quality.proofs.range.range_column.Lts as lts
+use Rattle.quality.proofs.column.at.Reads as at-reads
+use Rattle.quality.proofs.column.put.Reads as put-reads
+use Rattle.quality.proofs.range.range_cell.Reads as range-cell-reads
+
+abbrev Inv-loop : tie.InvT-loop
+Inv-loop l c r₀ k₀ r k = Done (λ j. rangeCell (limitsOf l) (slot (cells c) j)) none 9 (cells r) k
+
+abbrev μ-loop : tie.MeasureT-loop
+μ-loop l c r₀ k₀ r k = 9 - k
+
+loop-holds : tie.Need-loop-holds Inv-loop μ-loop
+loop-holds c = Fill.none _ _ _ _ (length-cells _)
+
+at-requires : tie.Need-at-requires Inv-loop μ-loop
+at-requires c κs = search needs
+
+range-cell-requires : tie.Need-range-cell-requires Inv-loop μ-loop
+range-cell-requires c κs = search needs
+
+put-requires : tie.Need-put-requires Inv-loop μ-loop
+put-requires c κs = search needs
+
+add-k : tie.Need-add-k Inv-loop μ-loop
+add-k c = search needs
+
+loop-less : tie.Need-loop-less Inv-loop μ-loop
+loop-less c = search needs
+
+loop-again : tie.Need-loop-again Inv-loop μ-loop
+loop-again c =
+    let l = c .before .before .before .before in
+    rw (c .put .ensures) (Fill.more _ (l .loop .inv) (search needs) (c .before .range-cell .ensures ∙ ap (rangeCell (limitsOf (l .before .args .l))) (c .before .before .at .ensures)))
+
+returns : tie.Need-returns Inv-loop μ-loop
+unfolding rangeColumn
+returns c = Fill.whole (c .before .loop .inv) (search needs)
+
+pub range-column-spec : {M : Type 1} → statement M
+range-column-spec =
+    tie.close
+    (tie.spec
+    Inv-loop
+    μ-loop
+    loop-holds
+    at-requires
+    range-cell-requires
+    put-requires
+    add-k
+    loop-less
+    loop-again
+    returns)

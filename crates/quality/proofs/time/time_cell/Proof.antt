@@ -1,0 +1,41 @@
+-- `quality::time::time_cell` meets its contract.
+-- Assumes nothing.
+use Rattle.laws.proofs.Bools.{via, or-eq, and-eq}
+use Rattle.quality.specs.Steps.{timeCell}
+use mathlib.Core.Path.{_∙_, sym, ap}
+use Rattle.laws.proofs.Bools.{took, skip, cond-false}
+use borrow.Author.Needs.{needs}
+use Rattle.quality.proofs.time.time_cell.Statement.{statement}
+use Rattle.quality.proofs.time.time_cell.Tie as tie
+use Rattle.quality.proofs.time.time_cell.Reads as reads
+use Rattle.quality.proofs.time.time_cell.Lts as lts
+use Rattle.quality.proofs.time.mended.Reads as mended-reads
+use Rattle.quality.proofs.value.far.Reads as far-reads
+
+returns : tie.Need-returns
+unfolding timeCell
+returns c = took _ _ _ (c .if1 .taken)
+
+far-requires : tie.Need-far-requires
+far-requires c κs = search needs
+
+far-requires-2 : tie.Need-far-requires-2
+far-requires-2 c κs = search needs
+
+mended-requires : tie.Need-mended-requires
+mended-requires c κs = search needs
+
+returns-2 : tie.Need-returns-2
+unfolding timeCell
+returns-2 c =
+    skip _ _ _ _ (c .before .before .before .before .if1 .left)
+    (c .mended .ensures ∙ took _ _ _ (via (and-eq (c .before .before .before .far .ensures) (c .before .before .far2 .ensures)) (c .before .if2 .taken)))
+
+returns-3 : tie.Need-returns-3
+unfolding timeCell
+returns-3 c =
+    skip _ _ _ _ (c .before .before .before .if1 .left) (sym (cond-false _ _ _ (via (and-eq (c .before .before .far .ensures) (c .before .far2 .ensures)) (c .if2 .left))))
+
+pub time-cell-spec : {M : Type 1} → statement M
+time-cell-spec =
+    tie.close (tie.spec returns far-requires far-requires-2 mended-requires returns-2 returns-3)

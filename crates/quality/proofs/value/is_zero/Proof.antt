@@ -1,0 +1,15 @@
+-- `quality::value::is_zero` meets its contract.
+-- Assumes nothing.
+use Rattle.laws.proofs.Offset.{zero}
+use mathlib.Core.Path.{sym}
+use borrow.Author.Needs.{needs}
+use Rattle.quality.proofs.value.is_zero.Statement.{statement}
+use Rattle.quality.proofs.value.is_zero.Tie as tie
+use Rattle.quality.proofs.value.is_zero.Reads as reads
+use Rattle.quality.proofs.value.is_zero.Lts as lts
+
+returns : tie.Need-returns
+returns c = sym (zero (c .args .x))
+
+pub is-zero-spec : {M : Type 1} → statement M
+is-zero-spec = tie.close (tie.spec returns)

@@ -1,0 +1,65 @@
+// A column: one element's nine cells, slot by slot, passed by value through the steps.
+ghost use mathlib.Core.Path.{_≡_};
+ghost use Prim.Native.Nat.{_<_};
+ghost use lib.ListN.{set};
+ghost use Rattle.quality.specs.Cell.{slot, discarded, flagged};
+ghost use Rattle.quality.specs.Coded.{cell, cells};
+
+// A cell: its value v is kept as v + 32768.
+pub struct Datum {
+    pub state: u8,
+    pub flag: u8,
+    pub value: u16,
+}
+
+pub struct Column {
+    pub values: [u16; 9],
+    pub states: [u8; 9],
+    pub flags: [u8; 9],
+}
+
+// The cell at slot k.
+pub fn at(c: Column, k: usize) -> Datum
+    requires { ⌜ k < 9 ⌝ }
+    ensures { λ r. ⌜ cell r ≡ slot (cells c) k ⌝ }
+{
+    Datum {
+        state: c.states[k],
+        flag: c.flags[k],
+        value: c.values[k],
+    }
+}
+
+// The column with the cell d at slot k.
+pub fn put(c: Column, k: usize, d: Datum) -> Column
+    requires { ⌜ k < 9 ⌝ }
+    ensures { λ r. ⌜ cells r ≡ set (cells c) k (cell d) ⌝ }
+{
+    let mut r = c;
+    r.values[k] = d.value;
+    r.states[k] = d.state;
+    r.flags[k] = d.flag;
+    r
+}
+
+// Missing, with the flag.
+pub fn discard(flag: u8) -> Datum
+    ensures { λ r. ⌜ cell r ≡ discarded flag ⌝ }
+{
+    Datum {
+        state: 0,
+        flag: flag,
+        value: 32768,
+    }
+}
+
+// The same cell with another flag.
+pub fn mark(d: Datum, flag: u8) -> Datum
+    ensures { λ r. ⌜ cell r ≡ flagged flag (cell d) ⌝ }
+{
+    Datum {
+        state: d.state,
+        flag: flag,
+        value: d.value,
+    }
+}

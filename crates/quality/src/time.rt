@@ -1,0 +1,87 @@
+// The time and fill steps: a value beside its neighbours in time.
+ghost use mathlib.Core.Path.{_≡_};
+ghost use Rattle.quality.specs.Coded.{cell, cells};
+ghost use Rattle.quality.specs.Steps.{oddCell, timeCell, fillCell, between};
+ghost use Rattle.quality.specs.Valid.{ValidCell, ValidColumn};
+use crate::column::Column;
+use crate::column::Datum;
+use crate::column::at;
+use crate::column::discard;
+use crate::column::put;
+use crate::value::far;
+use crate::value::middle;
+use crate::value::near;
+use crate::value::negative;
+
+// A value x that differs from both neighbours: its negative where that is near both and the element mends, else discarded.
+fn mended(mends: bool, a: Datum, x: Datum, b: Datum) -> Datum
+    requires { ⌜ ValidCell (cell x) ⌝ }
+    ensures { λ r. ⌜ cell r ≡ oddCell mends (cell a) (cell x) (cell b) ⌝ }
+{
+    let n = negative(x.value);
+    let fits = mends & near(n, a.value) & near(n, b.value);
+    if fits {
+        return Datum {
+            state: 2,
+            flag: 3,
+            value: n,
+        };
+    }
+    discard(3)
+}
+
+// The value x between its neighbours a and b in time: mended, discarded or kept.
+pub fn time_cell(mends: bool, a: Datum, x: Datum, b: Datum) -> Datum
+    requires { ⌜ ValidCell (cell x) ⌝ }
+    ensures { λ r. ⌜ cell r ≡ timeCell mends (cell a) (cell x) (cell b) ⌝ }
+{
+    let missing = (a.state == 0) | (x.state == 0) | (b.state == 0);
+    if missing {
+        return x;
+    }
+    let odd = far(x.value, a.value) & far(x.value, b.value);
+    if odd {
+        return mended(mends, a, x, b);
+    }
+    x
+}
+
+// The time step on a column, slots 1 to 7; a temperature is mended.
+pub fn time_column(mends: bool, c: Column) -> Column
+    requires { ⌜ ValidColumn (cells c) ⌝ }
+    ensures { λ r. ⌜ cells r ≡ between (timeCell mends) (cells c) ⌝ }
+{
+    let mut r = c;
+    for k in 1..8 {
+        let x = time_cell(mends, at(c, k - 1), at(c, k), at(c, k + 1));
+        r = put(r, k, x);
+    }
+    r
+}
+
+// The missing x between its neighbours a and b in time: filled by their mean.
+pub fn fill_cell(a: Datum, x: Datum, b: Datum) -> Datum
+    ensures { λ r. ⌜ cell r ≡ fillCell (cell a) (cell x) (cell b) ⌝ }
+{
+    let gap = (x.state == 0) & (a.state != 0) & (b.state != 0);
+    if gap {
+        return Datum {
+            state: 3,
+            flag: x.flag,
+            value: middle(a.value, b.value),
+        };
+    }
+    x
+}
+
+// The fill step on a column, slots 1 to 7.
+pub fn fill_column(c: Column) -> Column
+    ensures { λ r. ⌜ cells r ≡ between fillCell (cells c) ⌝ }
+{
+    let mut r = c;
+    for k in 1..8 {
+        let x = fill_cell(at(c, k - 1), at(c, k), at(c, k + 1));
+        r = put(r, k, x);
+    }
+    r
+}
