@@ -1,12 +1,11 @@
 -- Laws of columns: what stands at a slot of the cells that a `Column` stands for, and what a store there does.
 -- Assumes nothing.
-use mathlib.Core.Path.{_≡_, refl, sym, _∙_, ap, subst}
-use mathlib.Core.List.{List, map}
+use mathlib.Core.Path.{_≡_, sym, _∙_, subst}
+use mathlib.Core.List.{List}
 use Prim.Native.Nat.{ℕ, _<_}
 use native.Mathlib.Decide.{ℕ-discrete}
-use lib.ListN.{length, getD, set, length-set, length-map, List·getD-map}
+use lib.ListN.{length, getD, set, length-set}
 use lib.Seq.{getD-set-same, getD-set-other}
-use Rattle.laws.specs.Table.{table}
 use Rattle.laws.proofs.Tables.{length-table, getD-table, is-table}
 use Rattle.quality.specs.declared.column.Column.{Column}
 use Rattle.quality.specs.Cell.{Cell, none, slot}

@@ -4,3 +4,4 @@ pub mod Between
 pub mod Sheets
 pub mod Crossing
 pub mod Validity
+pub mod Examples

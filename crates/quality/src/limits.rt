@@ -16,224 +16,45 @@ pub struct Bounds {
 // The number that stands for 0.
 const O: u16 = 32768;
 
-// Element by element in the order T, D, P, W, C, V, R, X, M; of each lowland cold, lowland warm, hill cold, hill warm.
-const ROWS: [Bounds; 36] = [
-    Bounds {
-        min2: O - 400,
-        min1: O - 250,
-        max1: O + 250,
-        max2: O + 350,
-    }, // T lowland cold
-    Bounds {
-        min2: O - 150,
-        min1: O - 50,
-        max1: O + 380,
-        max2: O + 480,
-    }, // T lowland warm
-    Bounds {
-        min2: O - 480,
-        min1: O - 320,
-        max1: O + 200,
-        max2: O + 300,
-    }, // T hill cold
-    Bounds {
-        min2: O - 220,
-        min1: O - 120,
-        max1: O + 320,
-        max2: O + 420,
-    }, // T hill warm
-    Bounds {
-        min2: O - 400,
-        min1: O - 250,
-        max1: O + 250,
-        max2: O + 320,
-    }, // D lowland cold
-    Bounds {
-        min2: O - 150,
-        min1: O - 50,
-        max1: O + 250,
-        max2: O + 320,
-    }, // D lowland warm
-    Bounds {
-        min2: O - 480,
-        min1: O - 320,
-        max1: O + 250,
-        max2: O + 320,
-    }, // D hill cold
-    Bounds {
-        min2: O - 220,
-        min1: O - 120,
-        max1: O + 250,
-        max2: O + 320,
-    }, // D hill warm
-    Bounds {
-        min2: O + 9200,
-        min1: O + 9500,
-        max1: O + 10500,
-        max2: O + 10800,
-    }, // P lowland cold
-    Bounds {
-        min2: O + 9200,
-        min1: O + 9500,
-        max1: O + 10500,
-        max2: O + 10800,
-    }, // P lowland warm
-    Bounds {
-        min2: O + 9200,
-        min1: O + 9500,
-        max1: O + 10500,
-        max2: O + 10800,
-    }, // P hill cold
-    Bounds {
-        min2: O + 9200,
-        min1: O + 9500,
-        max1: O + 10500,
-        max2: O + 10800,
-    }, // P hill warm
-    Bounds {
-        min2: O,
-        min1: O,
-        max1: O + 400,
-        max2: O + 750,
-    }, // W lowland cold
-    Bounds {
-        min2: O,
-        min1: O,
-        max1: O + 400,
-        max2: O + 750,
-    }, // W lowland warm
-    Bounds {
-        min2: O,
-        min1: O,
-        max1: O + 400,
-        max2: O + 750,
-    }, // W hill cold
-    Bounds {
-        min2: O,
-        min1: O,
-        max1: O + 400,
-        max2: O + 750,
-    }, // W hill warm
-    Bounds {
-        min2: 0,
-        min1: 0,
-        max1: 65535,
-        max2: 65535,
-    }, // C lowland cold: none
-    Bounds {
-        min2: 0,
-        min1: 0,
-        max1: 65535,
-        max2: 65535,
-    }, // C lowland warm: none
-    Bounds {
-        min2: 0,
-        min1: 0,
-        max1: 65535,
-        max2: 65535,
-    }, // C hill cold: none
-    Bounds {
-        min2: 0,
-        min1: 0,
-        max1: 65535,
-        max2: 65535,
-    }, // C hill warm: none
-    Bounds {
-        min2: 0,
-        min1: 0,
-        max1: 65535,
-        max2: 65535,
-    }, // V lowland cold: none
-    Bounds {
-        min2: 0,
-        min1: 0,
-        max1: 65535,
-        max2: 65535,
-    }, // V lowland warm: none
-    Bounds {
-        min2: 0,
-        min1: 0,
-        max1: 65535,
-        max2: 65535,
-    }, // V hill cold: none
-    Bounds {
-        min2: 0,
-        min1: 0,
-        max1: 65535,
-        max2: 65535,
-    }, // V hill warm: none
-    Bounds {
-        min2: O,
-        min1: O,
-        max1: O + 2000,
-        max2: O + 5000,
-    }, // R lowland cold
-    Bounds {
-        min2: O,
-        min1: O,
-        max1: O + 2000,
-        max2: O + 5000,
-    }, // R lowland warm
-    Bounds {
-        min2: O,
-        min1: O,
-        max1: O + 2000,
-        max2: O + 5000,
-    }, // R hill cold
-    Bounds {
-        min2: O,
-        min1: O,
-        max1: O + 2000,
-        max2: O + 5000,
-    }, // R hill warm
-    Bounds {
-        min2: O - 400,
-        min1: O - 250,
-        max1: O + 250,
-        max2: O + 350,
-    }, // X lowland cold
-    Bounds {
-        min2: O - 150,
-        min1: O - 50,
-        max1: O + 380,
-        max2: O + 480,
-    }, // X lowland warm
-    Bounds {
-        min2: O - 480,
-        min1: O - 320,
-        max1: O + 200,
-        max2: O + 300,
-    }, // X hill cold
-    Bounds {
-        min2: O - 220,
-        min1: O - 120,
-        max1: O + 320,
-        max2: O + 420,
-    }, // X hill warm
-    Bounds {
-        min2: O - 400,
-        min1: O - 250,
-        max1: O + 250,
-        max2: O + 350,
-    }, // M lowland cold
-    Bounds {
-        min2: O - 150,
-        min1: O - 50,
-        max1: O + 380,
-        max2: O + 480,
-    }, // M lowland warm
-    Bounds {
-        min2: O - 480,
-        min1: O - 320,
-        max1: O + 200,
-        max2: O + 300,
-    }, // M hill cold
-    Bounds {
-        min2: O - 220,
-        min1: O - 120,
-        max1: O + 320,
-        max2: O + 420,
-    }, // M hill warm
+// min2, min1, max1, max2, element by element in the order T, D, P, W, C, V, R, X, M; of each lowland cold, lowland warm, hill cold,
+// hill warm. C and V have no limits: the least and the largest value of 16 bits.
+const ROWS: [[u16; 4]; 36] = [
+    [O - 400, O - 250, O + 250, O + 350], // T lowland cold
+    [O - 150, O - 50, O + 380, O + 480], // T lowland warm
+    [O - 480, O - 320, O + 200, O + 300], // T hill cold
+    [O - 220, O - 120, O + 320, O + 420], // T hill warm
+    [O - 400, O - 250, O + 250, O + 320], // D lowland cold
+    [O - 150, O - 50, O + 250, O + 320], // D lowland warm
+    [O - 480, O - 320, O + 250, O + 320], // D hill cold
+    [O - 220, O - 120, O + 250, O + 320], // D hill warm
+    [O + 9200, O + 9500, O + 10500, O + 10800], // P lowland cold
+    [O + 9200, O + 9500, O + 10500, O + 10800], // P lowland warm
+    [O + 9200, O + 9500, O + 10500, O + 10800], // P hill cold
+    [O + 9200, O + 9500, O + 10500, O + 10800], // P hill warm
+    [O, O, O + 400, O + 750], // W lowland cold
+    [O, O, O + 400, O + 750], // W lowland warm
+    [O, O, O + 400, O + 750], // W hill cold
+    [O, O, O + 400, O + 750], // W hill warm
+    [0, 0, 65535, 65535], // C lowland cold
+    [0, 0, 65535, 65535], // C lowland warm
+    [0, 0, 65535, 65535], // C hill cold
+    [0, 0, 65535, 65535], // C hill warm
+    [0, 0, 65535, 65535], // V lowland cold
+    [0, 0, 65535, 65535], // V lowland warm
+    [0, 0, 65535, 65535], // V hill cold
+    [0, 0, 65535, 65535], // V hill warm
+    [O, O, O + 2000, O + 5000], // R lowland cold
+    [O, O, O + 2000, O + 5000], // R lowland warm
+    [O, O, O + 2000, O + 5000], // R hill cold
+    [O, O, O + 2000, O + 5000], // R hill warm
+    [O - 400, O - 250, O + 250, O + 350], // X lowland cold
+    [O - 150, O - 50, O + 380, O + 480], // X lowland warm
+    [O - 480, O - 320, O + 200, O + 300], // X hill cold
+    [O - 220, O - 120, O + 320, O + 420], // X hill warm
+    [O - 400, O - 250, O + 250, O + 350], // M lowland cold
+    [O - 150, O - 50, O + 380, O + 480], // M lowland warm
+    [O - 480, O - 320, O + 200, O + 300], // M hill cold
+    [O - 220, O - 120, O + 320, O + 420], // M hill warm
 ];
 
 // A row of the table.
@@ -241,7 +62,13 @@ fn limits_row(at: usize) -> Bounds
     requires { ⌜ at < 36 ⌝ }
     ensures { λ r. ⌜ limitsOf r ≡ limits (at / 4) (at / 2 % 2) (eqb (at % 2) 1) ⌝ }
 {
-    ROWS[at]
+    let l = ROWS[at];
+    Bounds {
+        min2: l[0],
+        min1: l[1],
+        max1: l[2],
+        max2: l[3],
+    }
 }
 
 // The limits of an element (0 to 8) in a climate row (0 lowland, 1 hill) and season.

@@ -1,21 +1,16 @@
 -- `quality::internal::dew_column` meets its contract.
 -- Assumes nothing.
-use Rattle.quality.specs.Steps.{dewCell, dewColumn}
-use Rattle.quality.proofs.Columns.{length-cells}
-use Rattle.quality.specs.Coded.{cells}
-use Rattle.quality.specs.Cell.{Cell, slot, none}
-use Rattle.laws.proofs.Fill as Fill
-use Rattle.laws.proofs.Fill.{Done}
-use mathlib.Core.Path.{_∙_, ap, ap₂}
+use mathlib.Core.Path.{_∙_, ap₂}
 use Prim.Native.Nat.{_-_}
 use borrow.Author.Needs.{needs}
+use Rattle.laws.proofs.Fill.{Done}
+use Rattle.laws.proofs.Fill as Fill
+use Rattle.quality.specs.Steps.{dewCell, dewColumn}
+use Rattle.quality.specs.Coded.{cells}
+use Rattle.quality.specs.Cell.{slot, none}
+use Rattle.quality.proofs.Columns.{length-cells}
 use Rattle.quality.proofs.internal.dew_column.Statement.{statement}
 use Rattle.quality.proofs.internal.dew_column.Tie as tie
-use Rattle.quality.proofs.internal.dew_column.Reads as reads
-use Rattle.quality.proofs.internal.dew_column.Lts as lts
-use Rattle.quality.proofs.column.at.Reads as at-reads
-use Rattle.quality.proofs.column.put.Reads as put-reads
-use Rattle.quality.proofs.internal.dew_cell.Reads as dew-cell-reads
 
 abbrev Inv-loop : tie.InvT-loop
 Inv-loop t d r₀ k₀ r k = Done (λ j. dewCell (slot (cells t) j) (slot (cells d) j)) none 9 (cells r) k
@@ -25,24 +20,6 @@ abbrev μ-loop : tie.MeasureT-loop
 
 loop-holds : tie.Need-loop-holds Inv-loop μ-loop
 loop-holds c = Fill.none _ _ _ _ (length-cells _)
-
-at-requires : tie.Need-at-requires Inv-loop μ-loop
-at-requires c κs = search needs
-
-at-requires-2 : tie.Need-at-requires-2 Inv-loop μ-loop
-at-requires-2 c κs = search needs
-
-dew-cell-requires : tie.Need-dew-cell-requires Inv-loop μ-loop
-dew-cell-requires c κs = search needs
-
-put-requires : tie.Need-put-requires Inv-loop μ-loop
-put-requires c κs = search needs
-
-add-k : tie.Need-add-k Inv-loop μ-loop
-add-k c = search needs
-
-loop-less : tie.Need-loop-less Inv-loop μ-loop
-loop-less c = search needs
 
 loop-again : tie.Need-loop-again Inv-loop μ-loop
 loop-again c =
@@ -61,11 +38,11 @@ dew-column-spec =
     Inv-loop
     μ-loop
     loop-holds
-    at-requires
-    at-requires-2
-    dew-cell-requires
-    put-requires
-    add-k
-    loop-less
+    (λ c κs. search needs)
+    (λ c κs. search needs)
+    (λ c κs. tt)
+    (λ c κs. search needs)
+    (λ c. search needs)
+    (λ c. search needs)
     loop-again
     returns)

@@ -1,34 +1,17 @@
 -- `quality::internal::wind_cell` meets its contract.
 -- Assumes nothing.
-use mathlib.Core.Path.{refl}
+use mathlib.Core.Path.{refl, sym}
 use mathlib.Core.Bool.{_&&_}
-use lib.Dec.{eqb, leb}
-use Rattle.laws.proofs.Bools.{via, or-eq, and-eq}
-use Rattle.quality.specs.Steps.{windCell}
 use borrow.Author.Tests.{eq-eqb, ne-eqb}
-use mathlib.Core.Path.{_∙_, sym, ap}
-use Rattle.laws.proofs.Bools.{took, skip, cond-false}
-use borrow.Author.Needs.{needs}
+use lib.Dec.{eqb, leb}
+use Rattle.laws.proofs.Bools.{via, or-eq, and-eq, took, skip, cond-false}
+use Rattle.quality.specs.Steps.{windCell}
 use Rattle.quality.proofs.internal.wind_cell.Statement.{statement}
 use Rattle.quality.proofs.internal.wind_cell.Tie as tie
-use Rattle.quality.proofs.internal.wind_cell.Reads as reads
-use Rattle.quality.proofs.internal.wind_cell.Lts as lts
-use Rattle.quality.proofs.column.mark.Reads as mark-reads
-use Rattle.quality.proofs.value.below.Reads as below-reads
-use Rattle.quality.proofs.value.is_zero.Reads as is-zero-reads
 
 returns : tie.Need-returns
 unfolding windCell
 returns c = took _ _ _ (eq-eqb _ _ (c .if1 .taken))
-
-below-requires : tie.Need-below-requires
-below-requires c κs = search needs
-
-is-zero-requires : tie.Need-is-zero-requires
-is-zero-requires c κs = search needs
-
-mark-requires : tie.Need-mark-requires
-mark-requires c κs = search needs
 
 returns-2 : tie.Need-returns-2
 unfolding windCell
@@ -45,4 +28,4 @@ returns-3 c =
 
 pub wind-cell-spec : {M : Type 1} → statement M
 wind-cell-spec =
-    tie.close (tie.spec returns below-requires is-zero-requires mark-requires returns-2 returns-3)
+    tie.close (tie.spec returns (λ c κs. tt) (λ c κs. tt) (λ c κs. tt) returns-2 returns-3)

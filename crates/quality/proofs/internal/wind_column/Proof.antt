@@ -1,22 +1,17 @@
 -- `quality::internal::wind_column` meets its contract.
 -- Assumes nothing.
-use lib.ListN.{getD}
-use Rattle.quality.specs.Steps.{windCell, windColumn}
-use Rattle.quality.proofs.Columns.{length-cells}
-use Rattle.quality.specs.Coded.{cells}
-use Rattle.quality.specs.Cell.{Cell, slot, none}
-use Rattle.laws.proofs.Fill as Fill
-use Rattle.laws.proofs.Fill.{Done}
-use mathlib.Core.Path.{_∙_, ap, ap₂}
+use mathlib.Core.Path.{_∙_, ap}
 use Prim.Native.Nat.{_-_}
 use borrow.Author.Needs.{needs}
+use lib.ListN.{getD}
+use Rattle.laws.proofs.Fill.{Done}
+use Rattle.laws.proofs.Fill as Fill
+use Rattle.quality.specs.Steps.{windCell, windColumn}
+use Rattle.quality.specs.Coded.{cells}
+use Rattle.quality.specs.Cell.{slot, none}
+use Rattle.quality.proofs.Columns.{length-cells}
 use Rattle.quality.proofs.internal.wind_column.Statement.{statement}
 use Rattle.quality.proofs.internal.wind_column.Tie as tie
-use Rattle.quality.proofs.internal.wind_column.Reads as reads
-use Rattle.quality.proofs.internal.wind_column.Lts as lts
-use Rattle.quality.proofs.column.at.Reads as at-reads
-use Rattle.quality.proofs.column.put.Reads as put-reads
-use Rattle.quality.proofs.internal.wind_cell.Reads as wind-cell-reads
 
 abbrev Inv-loop : tie.InvT-loop
 Inv-loop w dd r₀ k₀ r k = Done (λ j. windCell (getD dd j 0) (slot (cells w) j)) none 9 (cells r) k
@@ -26,24 +21,6 @@ abbrev μ-loop : tie.MeasureT-loop
 
 loop-holds : tie.Need-loop-holds Inv-loop μ-loop
 loop-holds c = Fill.none _ _ _ _ (length-cells _)
-
-array-read-wind-cell : tie.Need-array-read-wind-cell Inv-loop μ-loop
-array-read-wind-cell c = search needs
-
-at-requires : tie.Need-at-requires Inv-loop μ-loop
-at-requires c κs = search needs
-
-wind-cell-requires : tie.Need-wind-cell-requires Inv-loop μ-loop
-wind-cell-requires c κs = search needs
-
-put-requires : tie.Need-put-requires Inv-loop μ-loop
-put-requires c κs = search needs
-
-add-k : tie.Need-add-k Inv-loop μ-loop
-add-k c = search needs
-
-loop-less : tie.Need-loop-less Inv-loop μ-loop
-loop-less c = search needs
 
 loop-again : tie.Need-loop-again Inv-loop μ-loop
 loop-again c =
@@ -62,11 +39,11 @@ wind-column-spec =
     Inv-loop
     μ-loop
     loop-holds
-    array-read-wind-cell
-    at-requires
-    wind-cell-requires
-    put-requires
-    add-k
-    loop-less
+    (λ c. search needs)
+    (λ c κs. search needs)
+    (λ c κs. tt)
+    (λ c κs. search needs)
+    (λ c. search needs)
+    (λ c. search needs)
     loop-again
     returns)

@@ -1,88 +1,94 @@
 -- `quality::limits::limits_row` meets its contract: the constant's rows are those of the rule, which antt computes once for all 36 of them.
 -- Assumes nothing.
 use mathlib.Core.Path.{_≡_, refl, sym, _∙_, ap}
-use mathlib.Core.Bool.{Bool}
 use mathlib.Core.List.{List, [], _∷_, map}
 use Prim.Native.Nat.{ℕ, _/_, _%_, _<_}
 use borrow.Author.Needs.{needs}
 use lib.Dec.{eqb}
 use lib.ListN.{getD, List·getD-map}
+use Rattle.laws.specs.Offset.{value}
 use Rattle.laws.specs.Table.{table}
 use Rattle.laws.proofs.Tables.{getD-table}
-use Rattle.quality.specs.declared.limits.Bounds.{Bounds}
-use Rattle.quality.specs.Limits.{Limits, limits, unlimited}
-use Rattle.quality.specs.Coded.{limitsOf}
+use Rattle.quality.specs.Limits.{Limits, limits}
 use Rattle.quality.proofs.limits.limits_row.Statement.{statement}
 use Rattle.quality.proofs.limits.limits_row.Tie as tie
-use Rattle.quality.proofs.limits.limits_row.Reads as reads
-use Rattle.quality.proofs.limits.limits_row.Lts as lts
 
-rows : List Bounds
+-- what a row of four numbers stands for
+ofRow : List ℕ → Limits
+ofRow l =
+    record {
+      min2 = value (getD l 0 0);
+      min1 = value (getD l 1 0);
+      max1 = value (getD l 2 0);
+      max2 = value (getD l 3 0);
+    }
+
+rows : List (List ℕ)
 rows =
-    record { min2 = 32368; min1 = 32518; max1 = 33018; max2 = 33118 }
-    ∷ record { min2 = 32618; min1 = 32718; max1 = 33148; max2 = 33248 }
-    ∷ record { min2 = 32288; min1 = 32448; max1 = 32968; max2 = 33068 }
-    ∷ record { min2 = 32548; min1 = 32648; max1 = 33088; max2 = 33188 }
-    ∷ record { min2 = 32368; min1 = 32518; max1 = 33018; max2 = 33088 }
-    ∷ record { min2 = 32618; min1 = 32718; max1 = 33018; max2 = 33088 }
-    ∷ record { min2 = 32288; min1 = 32448; max1 = 33018; max2 = 33088 }
-    ∷ record { min2 = 32548; min1 = 32648; max1 = 33018; max2 = 33088 }
-    ∷ record { min2 = 41968; min1 = 42268; max1 = 43268; max2 = 43568 }
-    ∷ record { min2 = 41968; min1 = 42268; max1 = 43268; max2 = 43568 }
-    ∷ record { min2 = 41968; min1 = 42268; max1 = 43268; max2 = 43568 }
-    ∷ record { min2 = 41968; min1 = 42268; max1 = 43268; max2 = 43568 }
-    ∷ record { min2 = 32768; min1 = 32768; max1 = 33168; max2 = 33518 }
-    ∷ record { min2 = 32768; min1 = 32768; max1 = 33168; max2 = 33518 }
-    ∷ record { min2 = 32768; min1 = 32768; max1 = 33168; max2 = 33518 }
-    ∷ record { min2 = 32768; min1 = 32768; max1 = 33168; max2 = 33518 }
-    ∷ record { min2 = 0; min1 = 0; max1 = 65535; max2 = 65535 }
-    ∷ record { min2 = 0; min1 = 0; max1 = 65535; max2 = 65535 }
-    ∷ record { min2 = 0; min1 = 0; max1 = 65535; max2 = 65535 }
-    ∷ record { min2 = 0; min1 = 0; max1 = 65535; max2 = 65535 }
-    ∷ record { min2 = 0; min1 = 0; max1 = 65535; max2 = 65535 }
-    ∷ record { min2 = 0; min1 = 0; max1 = 65535; max2 = 65535 }
-    ∷ record { min2 = 0; min1 = 0; max1 = 65535; max2 = 65535 }
-    ∷ record { min2 = 0; min1 = 0; max1 = 65535; max2 = 65535 }
-    ∷ record { min2 = 32768; min1 = 32768; max1 = 34768; max2 = 37768 }
-    ∷ record { min2 = 32768; min1 = 32768; max1 = 34768; max2 = 37768 }
-    ∷ record { min2 = 32768; min1 = 32768; max1 = 34768; max2 = 37768 }
-    ∷ record { min2 = 32768; min1 = 32768; max1 = 34768; max2 = 37768 }
-    ∷ record { min2 = 32368; min1 = 32518; max1 = 33018; max2 = 33118 }
-    ∷ record { min2 = 32618; min1 = 32718; max1 = 33148; max2 = 33248 }
-    ∷ record { min2 = 32288; min1 = 32448; max1 = 32968; max2 = 33068 }
-    ∷ record { min2 = 32548; min1 = 32648; max1 = 33088; max2 = 33188 }
-    ∷ record { min2 = 32368; min1 = 32518; max1 = 33018; max2 = 33118 }
-    ∷ record { min2 = 32618; min1 = 32718; max1 = 33148; max2 = 33248 }
-    ∷ record { min2 = 32288; min1 = 32448; max1 = 32968; max2 = 33068 }
-    ∷ record { min2 = 32548; min1 = 32648; max1 = 33088; max2 = 33188 }
+    (32368 ∷ 32518 ∷ 33018 ∷ 33118 ∷ [])
+    ∷ (32618 ∷ 32718 ∷ 33148 ∷ 33248 ∷ [])
+    ∷ (32288 ∷ 32448 ∷ 32968 ∷ 33068 ∷ [])
+    ∷ (32548 ∷ 32648 ∷ 33088 ∷ 33188 ∷ [])
+    ∷ (32368 ∷ 32518 ∷ 33018 ∷ 33088 ∷ [])
+    ∷ (32618 ∷ 32718 ∷ 33018 ∷ 33088 ∷ [])
+    ∷ (32288 ∷ 32448 ∷ 33018 ∷ 33088 ∷ [])
+    ∷ (32548 ∷ 32648 ∷ 33018 ∷ 33088 ∷ [])
+    ∷ (41968 ∷ 42268 ∷ 43268 ∷ 43568 ∷ [])
+    ∷ (41968 ∷ 42268 ∷ 43268 ∷ 43568 ∷ [])
+    ∷ (41968 ∷ 42268 ∷ 43268 ∷ 43568 ∷ [])
+    ∷ (41968 ∷ 42268 ∷ 43268 ∷ 43568 ∷ [])
+    ∷ (32768 ∷ 32768 ∷ 33168 ∷ 33518 ∷ [])
+    ∷ (32768 ∷ 32768 ∷ 33168 ∷ 33518 ∷ [])
+    ∷ (32768 ∷ 32768 ∷ 33168 ∷ 33518 ∷ [])
+    ∷ (32768 ∷ 32768 ∷ 33168 ∷ 33518 ∷ [])
+    ∷ (0 ∷ 0 ∷ 65535 ∷ 65535 ∷ [])
+    ∷ (0 ∷ 0 ∷ 65535 ∷ 65535 ∷ [])
+    ∷ (0 ∷ 0 ∷ 65535 ∷ 65535 ∷ [])
+    ∷ (0 ∷ 0 ∷ 65535 ∷ 65535 ∷ [])
+    ∷ (0 ∷ 0 ∷ 65535 ∷ 65535 ∷ [])
+    ∷ (0 ∷ 0 ∷ 65535 ∷ 65535 ∷ [])
+    ∷ (0 ∷ 0 ∷ 65535 ∷ 65535 ∷ [])
+    ∷ (0 ∷ 0 ∷ 65535 ∷ 65535 ∷ [])
+    ∷ (32768 ∷ 32768 ∷ 34768 ∷ 37768 ∷ [])
+    ∷ (32768 ∷ 32768 ∷ 34768 ∷ 37768 ∷ [])
+    ∷ (32768 ∷ 32768 ∷ 34768 ∷ 37768 ∷ [])
+    ∷ (32768 ∷ 32768 ∷ 34768 ∷ 37768 ∷ [])
+    ∷ (32368 ∷ 32518 ∷ 33018 ∷ 33118 ∷ [])
+    ∷ (32618 ∷ 32718 ∷ 33148 ∷ 33248 ∷ [])
+    ∷ (32288 ∷ 32448 ∷ 32968 ∷ 33068 ∷ [])
+    ∷ (32548 ∷ 32648 ∷ 33088 ∷ 33188 ∷ [])
+    ∷ (32368 ∷ 32518 ∷ 33018 ∷ 33118 ∷ [])
+    ∷ (32618 ∷ 32718 ∷ 33148 ∷ 33248 ∷ [])
+    ∷ (32288 ∷ 32448 ∷ 32968 ∷ 33068 ∷ [])
+    ∷ (32548 ∷ 32648 ∷ 33088 ∷ 33188 ∷ [])
     ∷ []
 
 rule : ℕ → Limits
 rule i = limits (i / 4) (i / 2 % 2) (eqb (i % 2) 1)
 
 -- the test
-tested : map limitsOf rows ≡ table 36 rule
-unfolding rows rule table
+tested : map ofRow rows ≡ table 36 rule
+unfolding ofRow rows rule table
 tested = refl
 
-zeros : Bounds
-zeros = record { min2 = 0; min1 = 0; max1 = 0; max2 = 0 }
-
 -- and the row at each place
-at : (i : ℕ) → i < 36 → limitsOf (getD rows i zeros) ≡ rule i
-at i h =
-    sym (List·getD-map limitsOf rows i zeros) ∙ ap (λ (l : List Limits). getD l i (limitsOf zeros)) tested
-    ∙ getD-table 36 rule i (limitsOf zeros) h
-
-mul-result : tie.Need-mul-result
-mul-result c = search needs
-
-array-copy-out-result : tie.Need-array-copy-out-result
-array-copy-out-result c = search needs
+at : (i : ℕ) (d : List ℕ) → i < 36 → ofRow (getD rows i d) ≡ rule i
+at i d h =
+    sym (List·getD-map ofRow rows i d) ∙ ap (λ (l : List Limits). getD l i (ofRow d)) tested
+    ∙ getD-table 36 rule i (ofRow d) h
 
 returns : tie.Need-returns
-unfolding rows rule zeros
-returns c = at (c .before .args .at) (search needs)
+unfolding ofRow rows rule
+returns c = at (c .before .args .at) _ (search needs)
 
 pub limits-row-spec : {M : Type 1} → statement M
-limits-row-spec = tie.close (tie.spec mul-result array-copy-out-result returns)
+limits-row-spec =
+    tie.close
+    (tie.spec
+    (λ c. search needs)
+    (λ c. search needs)
+    (λ c. search needs)
+    (λ c. search needs)
+    (λ c. search needs)
+    (λ c. search needs)
+    returns)

@@ -1,48 +1,22 @@
 -- `quality::range::range_cell` meets its contract: each branch is the rule's own.
 -- Assumes nothing.
-use Rattle.laws.proofs.Bools.{cond-false}
-use mathlib.Core.Path.{_∙_, sym}
-use borrow.Author.Tests.{eq-eqb, ne-eqb}
-use Rattle.laws.proofs.Bools.{took, skip}
-use Rattle.quality.specs.Steps.{rangeCell}
-use Rattle.laws.proofs.Bools.{via, or-eq}
+use mathlib.Core.Path.{sym}
+use borrow.Author.Tests.{ne-eqb}
+use Rattle.laws.proofs.Bools.{cond-false, took, skip, via, or-eq}
 use Rattle.laws.proofs.Rules.{tests}
-use borrow.Author.Needs.{needs}
+use Rattle.quality.specs.Steps.{rangeCell}
 use Rattle.quality.proofs.range.range_cell.Statement.{statement}
 use Rattle.quality.proofs.range.range_cell.Tie as tie
-use Rattle.quality.proofs.range.range_cell.Reads as reads
-use Rattle.quality.proofs.range.range_cell.Lts as lts
-use Rattle.quality.proofs.column.discard.Reads as discard-reads
-use Rattle.quality.proofs.column.mark.Reads as mark-reads
-use Rattle.quality.proofs.value.below.Reads as below-reads
 
 returns : tie.Need-returns
 unfolding rangeCell
 returns c = search tests
-
-below-requires : tie.Need-below-requires
-below-requires c κs = search needs
-
-below-requires-2 : tie.Need-below-requires-2
-below-requires-2 c κs = search needs
-
-discard-requires : tie.Need-discard-requires
-discard-requires c κs = search needs
 
 returns-2 : tie.Need-returns-2
 unfolding rangeCell
 returns-2 c =
     rw (c .discard .ensures)
     (skip _ _ _ _ (ne-eqb _ _ (c .before .before .before .before .if1 .left)) (took _ _ _ (via (or-eq (c .before .before .before .below .ensures) (c .before .before .below2 .ensures)) (c .before .if2 .taken))))
-
-below-requires-3 : tie.Need-below-requires-3
-below-requires-3 c κs = search needs
-
-below-requires-4 : tie.Need-below-requires-4
-below-requires-4 c κs = search needs
-
-mark-requires : tie.Need-mark-requires
-mark-requires c κs = search needs
 
 returns-3 : tie.Need-returns-3
 unfolding rangeCell
@@ -66,12 +40,12 @@ range-cell-spec =
     tie.close
     (tie.spec
     returns
-    below-requires
-    below-requires-2
-    discard-requires
+    (λ c κs. tt)
+    (λ c κs. tt)
+    (λ c κs. tt)
     returns-2
-    below-requires-3
-    below-requires-4
-    mark-requires
+    (λ c κs. tt)
+    (λ c κs. tt)
+    (λ c κs. tt)
     returns-3
     returns-4)

@@ -1,6 +1,8 @@
-use borrow.Author.Needs.{needs}
+-- `quality::range::range_column` meets its contract.
+-- Assumes nothing.
 use mathlib.Core.Path.{_∙_, ap}
 use Prim.Native.Nat.{_-_}
+use borrow.Author.Needs.{needs}
 use Rattle.laws.proofs.Fill.{Done}
 use Rattle.laws.proofs.Fill as Fill
 use Rattle.quality.specs.Cell.{slot, none}
@@ -9,11 +11,6 @@ use Rattle.quality.specs.Steps.{rangeCell, rangeColumn}
 use Rattle.quality.proofs.Columns.{length-cells}
 use Rattle.quality.proofs.range.range_column.Statement.{statement}
 use Rattle.quality.proofs.range.range_column.Tie as tie
-use Rattle.quality.proofs.range.range_column.Reads as reads
-use Rattle.quality.proofs.range.range_column.Lts as lts
-use Rattle.quality.proofs.column.at.Reads as at-reads
-use Rattle.quality.proofs.column.put.Reads as put-reads
-use Rattle.quality.proofs.range.range_cell.Reads as range-cell-reads
 
 abbrev Inv-loop : tie.InvT-loop
 Inv-loop l c r₀ k₀ r k = Done (λ j. rangeCell (limitsOf l) (slot (cells c) j)) none 9 (cells r) k
@@ -23,21 +20,6 @@ abbrev μ-loop : tie.MeasureT-loop
 
 loop-holds : tie.Need-loop-holds Inv-loop μ-loop
 loop-holds c = Fill.none _ _ _ _ (length-cells _)
-
-at-requires : tie.Need-at-requires Inv-loop μ-loop
-at-requires c κs = search needs
-
-range-cell-requires : tie.Need-range-cell-requires Inv-loop μ-loop
-range-cell-requires c κs = search needs
-
-put-requires : tie.Need-put-requires Inv-loop μ-loop
-put-requires c κs = search needs
-
-add-k : tie.Need-add-k Inv-loop μ-loop
-add-k c = search needs
-
-loop-less : tie.Need-loop-less Inv-loop μ-loop
-loop-less c = search needs
 
 loop-again : tie.Need-loop-again Inv-loop μ-loop
 loop-again c =
@@ -55,10 +37,10 @@ range-column-spec =
     Inv-loop
     μ-loop
     loop-holds
-    at-requires
-    range-cell-requires
-    put-requires
-    add-k
-    loop-less
+    (λ c κs. search needs)
+    (λ c κs. tt)
+    (λ c κs. search needs)
+    (λ c. search needs)
+    (λ c. search needs)
     loop-again
     returns)

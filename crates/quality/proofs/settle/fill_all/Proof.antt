@@ -1,23 +1,18 @@
 -- `quality::settle::fill_all` meets its contract.
 -- Assumes nothing.
-use Rattle.quality.proofs.Sheets as Sheets
-use Rattle.quality.proofs.Sheets.{column-sheet, length-sheet}
-use Rattle.quality.specs.Settled.{timeOf, fillOf, range, time, fill}
-use Rattle.quality.specs.Steps.{rangeColumn}
-use Rattle.quality.specs.Limits.{limits}
-use Rattle.quality.specs.Elements.{column}
-use Rattle.quality.specs.Coded.{cells, sheet, limitsOf}
-use Rattle.laws.proofs.Fill as Fill
-use Rattle.laws.proofs.Fill.{Done}
 use mathlib.Core.List.{[]}
-use mathlib.Core.Path.{_≡_, _∙_, sym, ap, ap₂}
+use mathlib.Core.Path.{_∙_, sym, ap}
 use Prim.Native.Nat.{_-_}
 use borrow.Author.Needs.{needs}
+use Rattle.laws.proofs.Fill.{Done}
+use Rattle.laws.proofs.Fill as Fill
+use Rattle.quality.specs.Settled.{fillOf, fill}
+use Rattle.quality.specs.Elements.{column}
+use Rattle.quality.specs.Coded.{sheet}
+use Rattle.quality.proofs.Sheets.{column-sheet, length-sheet}
+use Rattle.quality.proofs.Sheets as Sheets
 use Rattle.quality.proofs.settle.fill_all.Statement.{statement}
 use Rattle.quality.proofs.settle.fill_all.Tie as tie
-use Rattle.quality.proofs.settle.fill_all.Reads as reads
-use Rattle.quality.proofs.settle.fill_all.Lts as lts
-use Rattle.quality.proofs.settle.fill_element.Reads as fill-element-reads
 
 abbrev Inv-loop : tie.InvT-loop
 Inv-loop s r₀ e₀ r e = Done (λ j. fillOf j (column (sheet s) j)) [] 9 (sheet r) e
@@ -27,27 +22,6 @@ abbrev μ-loop : tie.MeasureT-loop
 
 loop-holds : tie.Need-loop-holds Inv-loop μ-loop
 loop-holds c = Fill.none _ _ _ _ (length-sheet (c .args .t1) ∙ search needs)
-
-mul-c : tie.Need-mul-c Inv-loop μ-loop
-mul-c c = search needs
-
-array-copy-out-c : tie.Need-array-copy-out-c Inv-loop μ-loop
-array-copy-out-c c = search needs
-
-fill-element-requires : tie.Need-fill-element-requires Inv-loop μ-loop
-fill-element-requires c κs = search needs
-
-mul-r : tie.Need-mul-r Inv-loop μ-loop
-mul-r c = search needs
-
-array-set-from-r : tie.Need-array-set-from-r Inv-loop μ-loop
-array-set-from-r c = search needs
-
-add-e : tie.Need-add-e Inv-loop μ-loop
-add-e c = search needs
-
-loop-less : tie.Need-loop-less Inv-loop μ-loop
-loop-less c = search needs
 
 loop-again : tie.Need-loop-again Inv-loop μ-loop
 loop-again c =
@@ -67,12 +41,12 @@ fill-all-spec =
     Inv-loop
     μ-loop
     loop-holds
-    mul-c
-    array-copy-out-c
-    fill-element-requires
-    mul-r
-    array-set-from-r
-    add-e
-    loop-less
+    (λ c. search needs)
+    (λ c. search needs)
+    (λ c κs. tt)
+    (λ c. search needs)
+    (λ c. search needs)
+    (λ c. search needs)
+    (λ c. search needs)
     loop-again
     returns)

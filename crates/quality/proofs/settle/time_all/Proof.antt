@@ -1,25 +1,19 @@
 -- `quality::settle::time_all` meets its contract.
 -- Assumes nothing.
-use Rattle.quality.specs.Valid.{ValidColumn}
-use mathlib.Core.Path.{subst}
-use Rattle.quality.proofs.Sheets as Sheets
-use Rattle.quality.proofs.Sheets.{column-sheet, length-sheet}
-use Rattle.quality.specs.Settled.{timeOf, fillOf, range, time, fill}
-use Rattle.quality.specs.Steps.{rangeColumn}
-use Rattle.quality.specs.Limits.{limits}
-use Rattle.quality.specs.Elements.{column}
-use Rattle.quality.specs.Coded.{cells, sheet, limitsOf}
-use Rattle.laws.proofs.Fill as Fill
-use Rattle.laws.proofs.Fill.{Done}
+use mathlib.Core.Path.{subst, _∙_, sym, ap}
 use mathlib.Core.List.{[]}
-use mathlib.Core.Path.{_≡_, _∙_, sym, ap, ap₂}
 use Prim.Native.Nat.{_-_}
 use borrow.Author.Needs.{needs}
+use Rattle.laws.proofs.Fill.{Done}
+use Rattle.laws.proofs.Fill as Fill
+use Rattle.quality.specs.Valid.{ValidColumn}
+use Rattle.quality.specs.Settled.{timeOf, time}
+use Rattle.quality.specs.Elements.{column}
+use Rattle.quality.specs.Coded.{sheet}
+use Rattle.quality.proofs.Sheets.{column-sheet, length-sheet}
+use Rattle.quality.proofs.Sheets as Sheets
 use Rattle.quality.proofs.settle.time_all.Statement.{statement}
 use Rattle.quality.proofs.settle.time_all.Tie as tie
-use Rattle.quality.proofs.settle.time_all.Reads as reads
-use Rattle.quality.proofs.settle.time_all.Lts as lts
-use Rattle.quality.proofs.settle.time_element.Reads as time-element-reads
 
 abbrev Inv-loop : tie.InvT-loop
 Inv-loop s r₀ e₀ r e = Done (λ j. timeOf j (column (sheet s) j)) [] 9 (sheet r) e
@@ -30,29 +24,11 @@ abbrev μ-loop : tie.MeasureT-loop
 loop-holds : tie.Need-loop-holds Inv-loop μ-loop
 loop-holds c = Fill.none _ _ _ _ (length-sheet (c .args .t1) ∙ search needs)
 
-mul-c : tie.Need-mul-c Inv-loop μ-loop
-mul-c c = search needs
-
-array-copy-out-c : tie.Need-array-copy-out-c Inv-loop μ-loop
-array-copy-out-c c = search needs
-
 time-element-requires : tie.Need-time-element-requires Inv-loop μ-loop
 time-element-requires c κs =
     let s = c .before .before .before .args .t1 in
     let e = c .before .before .loop .e in
     subst ValidColumn (column-sheet s e _ (search needs)) (c .before .before .before .pre .each e (search needs))
-
-mul-r : tie.Need-mul-r Inv-loop μ-loop
-mul-r c = search needs
-
-array-set-from-r : tie.Need-array-set-from-r Inv-loop μ-loop
-array-set-from-r c = search needs
-
-add-e : tie.Need-add-e Inv-loop μ-loop
-add-e c = search needs
-
-loop-less : tie.Need-loop-less Inv-loop μ-loop
-loop-less c = search needs
 
 loop-again : tie.Need-loop-again Inv-loop μ-loop
 loop-again c =
@@ -72,12 +48,12 @@ time-all-spec =
     Inv-loop
     μ-loop
     loop-holds
-    mul-c
-    array-copy-out-c
+    (λ c. search needs)
+    (λ c. search needs)
     time-element-requires
-    mul-r
-    array-set-from-r
-    add-e
-    loop-less
+    (λ c. search needs)
+    (λ c. search needs)
+    (λ c. search needs)
+    (λ c. search needs)
     loop-again
     returns)

@@ -1,21 +1,15 @@
 -- `quality::time::fill_column` meets its contract.
 -- Assumes nothing.
-use Rattle.quality.proofs.Between as Between
-use Rattle.quality.proofs.Between.{Moved, ap₃}
-use Rattle.quality.proofs.Columns.{length-cells}
-use Rattle.quality.specs.Steps.{timeCell, fillCell}
-use Rattle.quality.specs.Cell.{Cell}
-use Rattle.quality.specs.Coded.{cells}
-use mathlib.Core.Path.{_≡_, _∙_, sym, subst}
+use mathlib.Core.Path.{_∙_}
 use Prim.Native.Nat.{_-_}
 use borrow.Author.Needs.{needs}
+use Rattle.quality.specs.Steps.{fillCell}
+use Rattle.quality.specs.Coded.{cells}
+use Rattle.quality.proofs.Between.{Moved, ap₃}
+use Rattle.quality.proofs.Columns.{length-cells}
+use Rattle.quality.proofs.Between as Between
 use Rattle.quality.proofs.time.fill_column.Statement.{statement}
 use Rattle.quality.proofs.time.fill_column.Tie as tie
-use Rattle.quality.proofs.time.fill_column.Reads as reads
-use Rattle.quality.proofs.time.fill_column.Lts as lts
-use Rattle.quality.proofs.column.at.Reads as at-reads
-use Rattle.quality.proofs.column.put.Reads as put-reads
-use Rattle.quality.proofs.time.fill_cell.Reads as fill-cell-reads
 
 abbrev Inv-loop : tie.InvT-loop
 Inv-loop c r₀ k₀ r k = Moved (fillCell) (cells c) (cells r) k
@@ -25,33 +19,6 @@ abbrev μ-loop : tie.MeasureT-loop
 
 loop-holds : tie.Need-loop-holds Inv-loop μ-loop
 loop-holds c = Between.start _ _ (length-cells _)
-
-sub-at : tie.Need-sub-at Inv-loop μ-loop
-sub-at c = search needs
-
-at-requires : tie.Need-at-requires Inv-loop μ-loop
-at-requires c κs = search needs
-
-at-requires-2 : tie.Need-at-requires-2 Inv-loop μ-loop
-at-requires-2 c κs = search needs
-
-add-at : tie.Need-add-at Inv-loop μ-loop
-add-at c = search needs
-
-at-requires-3 : tie.Need-at-requires-3 Inv-loop μ-loop
-at-requires-3 c κs = search needs
-
-fill-cell-requires : tie.Need-fill-cell-requires Inv-loop μ-loop
-fill-cell-requires c κs = search needs
-
-put-requires : tie.Need-put-requires Inv-loop μ-loop
-put-requires c κs = search needs
-
-add-k : tie.Need-add-k Inv-loop μ-loop
-add-k c = search needs
-
-loop-less : tie.Need-loop-less Inv-loop μ-loop
-loop-less c = search needs
 
 loop-again : tie.Need-loop-again Inv-loop μ-loop
 loop-again c =
@@ -70,14 +37,14 @@ fill-column-spec =
     Inv-loop
     μ-loop
     loop-holds
-    sub-at
-    at-requires
-    at-requires-2
-    add-at
-    at-requires-3
-    fill-cell-requires
-    put-requires
-    add-k
-    loop-less
+    (λ c. search needs)
+    (λ c κs. search needs)
+    (λ c κs. search needs)
+    (λ c. search needs)
+    (λ c κs. search needs)
+    (λ c κs. tt)
+    (λ c κs. search needs)
+    (λ c. search needs)
+    (λ c. search needs)
     loop-again
     returns)

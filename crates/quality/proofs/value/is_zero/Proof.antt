@@ -1,12 +1,9 @@
 -- `quality::value::is_zero` meets its contract.
 -- Assumes nothing.
-use Rattle.laws.proofs.Offset.{zero}
 use mathlib.Core.Path.{sym}
-use borrow.Author.Needs.{needs}
+use Rattle.laws.proofs.Offset.{zero}
 use Rattle.quality.proofs.value.is_zero.Statement.{statement}
 use Rattle.quality.proofs.value.is_zero.Tie as tie
-use Rattle.quality.proofs.value.is_zero.Reads as reads
-use Rattle.quality.proofs.value.is_zero.Lts as lts
 
 returns : tie.Need-returns
 returns c = sym (zero (c .args .x))
