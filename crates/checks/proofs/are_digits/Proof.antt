@@ -1,0 +1,12 @@
+-- `checks::are_digits` meets its contract, by what `is_digit` ensures of each character.
+-- Assumes nothing.
+use borrow.Author.Needs.{needs}
+use Rattle.checks.specs.Shapes.{areDigits}
+use Rattle.checks.proofs.are_digits.Statement.{statement}
+use Rattle.checks.proofs.are_digits.Tie as tie
+
+pub are-digits-spec : {M : Type 1} → statement M
+unfolding areDigits
+are-digits-spec =
+    tie.close
+    (tie.spec (λ c κs. search needs) (λ c κs. search needs) (λ c κs. search needs) (λ c κs. search needs) (λ c κs. search needs) (λ c. cc))

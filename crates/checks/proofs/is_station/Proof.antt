@@ -1,0 +1,12 @@
+-- `checks::is_station` meets its contract: its test is the definition's.
+-- Assumes nothing.
+use mathlib.Core.Path.{refl}
+use Rattle.checks.specs.Ranges.{isStation}
+use Rattle.checks.proofs.is_station.Statement.{statement}
+use Rattle.checks.proofs.is_station.Tie as tie
+
+pub is-station-spec : {M : Type 1} → statement M
+unfolding isStation
+is-station-spec =
+    tie.close
+    (tie.spec (λ c. refl))

@@ -1,0 +1,13 @@
+-- `checks::is_time` meets its contract, by what is ensured of its three parts.
+-- Assumes nothing.
+use borrow.Author.Needs.{needs}
+use Rattle.checks.specs.Ranges.{isTime}
+use Rattle.checks.proofs.is_time.Statement.{statement}
+use Rattle.checks.proofs.is_time.Tie as tie
+
+pub is-time-spec : {M : Type 1} → statement M
+unfolding isTime
+is-time-spec =
+    tie.close
+    (tie.spec (λ c κs. search needs) (λ c κs. search needs) (λ c κs. search needs)
+    (λ c. cc))

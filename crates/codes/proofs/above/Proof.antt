@@ -1,0 +1,11 @@
+-- `codes::above` meets its contract, by the law of the offset.
+-- Assumes nothing.
+use mathlib.Core.Path.{ap}
+use borrow.Author.Needs.{needs}
+use Rattle.codes.specs.Value.{read}
+use Rattle.codes.proofs.Offset.{above-zero}
+use Rattle.codes.proofs.above.Statement.{statement}
+use Rattle.codes.proofs.above.Tie as tie
+
+pub above-spec : {M : Type 1} → statement M
+above-spec = tie.close (tie.spec (λ c. search needs) (λ c. search needs) (λ c. ap read (above-zero (c .args .n))))

@@ -1,0 +1,16 @@
+-- `codes::below` meets its contract, by the law of the offset.
+-- Assumes nothing.
+use mathlib.Core.Path.{ap}
+use borrow.Author.Needs.{needs}
+use Rattle.codes.specs.Value.{read}
+use Rattle.codes.proofs.Offset.{below-zero}
+use Rattle.codes.proofs.below.Statement.{statement}
+use Rattle.codes.proofs.below.Tie as tie
+
+pub below-spec : {M : Type 1} → statement M
+below-spec =
+    tie.close
+    (tie.spec
+    (λ c. search needs)
+    (λ c. search needs)
+    (λ c. ap read (below-zero (c .args .n) (search needs))))

@@ -1,0 +1,11 @@
+-- `codes::cloud_of` meets its contract: its tests are those of `cloudOf`.
+-- Assumes nothing.
+use borrow.Author.Needs.{needs}
+use Rattle.laws.proofs.Rules.{tests}
+use Rattle.codes.specs.Elements.{cloudOf}
+use Rattle.codes.proofs.cloud_of.Statement.{statement}
+use Rattle.codes.proofs.cloud_of.Tie as tie
+
+pub cloud-of-spec : {M : Type 1} → statement M
+unfolding cloudOf
+cloud-of-spec = tie.close (tie.spec (λ c κs. search needs) (λ c. search (needs, tests)) (λ c. search (needs, tests)))

@@ -1,0 +1,2 @@
+-- What the groups of a report hold.
+pub mod Contents

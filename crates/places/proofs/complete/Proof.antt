@@ -1,0 +1,13 @@
+-- `places::complete` meets its contract, by what is ensured of its two parts.
+-- Assumes nothing.
+use borrow.Author.Needs.{needs}
+use Rattle.places.specs.Places.{complete}
+use Rattle.places.proofs.complete.Statement.{statement}
+use Rattle.places.proofs.complete.Tie as tie
+
+pub complete-spec : {M : Type 1} → statement M
+unfolding complete
+complete-spec =
+    tie.close
+    (tie.spec (λ c κs. search needs) (λ c κs. search needs)
+    (λ c. rw (c .section-of .ensures, c .before .is-nil .ensures)))

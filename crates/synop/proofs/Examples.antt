@@ -1,0 +1,63 @@
+-- Document 01's own examples, computed on the definitions: the texts of the table of refusals, and the report of the printed day.
+-- Assumes nothing.
+use mathlib.Core.Path.{_≡_, refl}
+use mathlib.Core.List.{List, [], _∷_}
+use Prim.Native.Nat.{ℕ}
+use lib.IntN.{pos}
+use Rattle.laws.specs.Table.{table}
+use Rattle.codes.specs.Digits.{two, three, four}
+use Rattle.codes.specs.Elements as elements
+use Rattle.codes.specs.Heads as heads
+use Rattle.codes.specs.Value.{missing, read}
+use Rattle.text.specs.Characters.{areFigures}
+use Rattle.text.specs.Groups.{cut}
+use Rattle.text.specs.Kinds as kinds
+use Rattle.places.specs.Places as places
+use Rattle.checks.specs.Bytes.{ended, check1, isKnown, check2}
+use Rattle.checks.specs.Shapes.{areDigits, shapedFrom}
+use Rattle.checks.specs.Ranges.{isDay, isHour, isUnit, isTime, isStation, rangedFrom}
+use Rattle.checks.specs.Refusal.{ofGroups, refusal}
+use Rattle.contents.specs.Contents as contents
+use Rattle.synop.specs.Parts as parts
+use Rattle.synop.specs.Report as reports
+use Rattle.synop.specs.Report.{Report, whole, report}
+
+-- `AAXX`
+abbrev no-end : List ℕ
+no-end = 65 ∷ 65 ∷ 88 ∷ 88 ∷ []
+
+-- `aaxx=`
+abbrev small-letters : List ℕ
+small-letters = 97 ∷ 97 ∷ 120 ∷ 120 ∷ 61 ∷ []
+
+-- `=`
+abbrev no-group : List ℕ
+no-group = 61 ∷ []
+
+-- `AAXX 11062 40001 NIL=`
+abbrev wrong-unit : List ℕ
+wrong-unit = 65 ∷ 65 ∷ 88 ∷ 88 ∷ 32 ∷ 49 ∷ 49 ∷ 48 ∷ 54 ∷ 50 ∷ 32 ∷ 52 ∷ 48 ∷ 48 ∷ 48 ∷ 49 ∷ 32 ∷ 78 ∷ 73 ∷ 76 ∷ 61 ∷ []
+
+-- `AAXX 11061=`
+abbrev too-few : List ℕ
+too-few = 65 ∷ 65 ∷ 88 ∷ 88 ∷ 32 ∷ 49 ∷ 49 ∷ 48 ∷ 54 ∷ 49 ∷ 61 ∷ []
+
+-- `AAXX 11061 40001 12360 62704 10103 20071 40132 60042=`
+abbrev a-report : List ℕ
+a-report =
+    65 ∷ 65 ∷ 88 ∷ 88 ∷ 32 ∷ 49 ∷ 49 ∷ 48 ∷ 54 ∷ 49 ∷ 32 ∷ 52 ∷ 48 ∷ 48 ∷ 48 ∷ 49 ∷ 32 ∷ 49 ∷ 50 ∷ 51 ∷ 54 ∷ 48 ∷ 32 ∷ 54 ∷ 50 ∷ 55 ∷ 48 ∷ 52 ∷ 32 ∷ 49 ∷ 48 ∷ 49 ∷ 48 ∷ 51 ∷ 32 ∷ 50 ∷ 48 ∷ 48 ∷ 55 ∷ 49 ∷ 32 ∷ 52 ∷ 48 ∷ 49 ∷ 51 ∷ 50 ∷ 32 ∷ 54 ∷ 48 ∷ 48 ∷ 52 ∷ 50 ∷ 61 ∷ []
+
+pub record Examples : Type 0 where
+  pub one : refusal no-end ≡ 1
+  pub two : refusal small-letters ≡ 2
+  pub three : refusal no-group ≡ 3
+  pub four : refusal wrong-unit ≡ 4
+  pub five : refusal too-few ≡ 5
+  pub day :
+      report a-report
+      ≡ whole (record { station = 40001; day = 11; hour = 6 }) (record { «rain_indicator» = 1; «rain_duration» = 2; «wind_direction» = 27 })
+      (read (pos 103) ∷ read (pos 71) ∷ read (pos 10132) ∷ read (pos 40) ∷ read (pos 6) ∷ read (pos 100) ∷ read (pos 40) ∷ missing ∷ missing ∷ [])
+
+pub examples : Examples
+unfolding table two three four elements.temperature elements.temperatureOf elements.pressure elements.pressureOf elements.windFf elements.windOf elements.cloud elements.cloudOf elements.visibility elements.visibilityOf elements.rain elements.rainOf heads.rainIndicator heads.rainIndicatorOf heads.windDirection heads.windDirectionOf heads.rainDuration heads.rainDurationOf areFigures cut kinds.kindOf kinds.ofThree kinds.ofFour kinds.ofFive places.aaxxAfter places.opened places.ordered places.firstOfOne places.final places.complete ended check1 isKnown check2 areDigits shapedFrom isDay isHour isUnit isTime isStation rangedFrom ofGroups refusal contents.charactersOf contents.twoOf contents.stationOf contents.headingOf contents.headOf contents.temperatureOf contents.pressureOf contents.cloudOf contents.visibilityOf contents.rainOf contents.ffOf contents.windOf contents.valuesOf parts.ofOne parts.ofThree parts.ofLater parts.first parts.parts reports.valuesIn reports.content reports.read report
+examples = record { one = refl; two = refl; three = refl; four = refl; five = refl; day = refl }

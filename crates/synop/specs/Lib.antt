@@ -1,0 +1,3 @@
+-- A report read: which group is which, and what a text is.
+pub mod Parts
+pub mod Report

@@ -1,0 +1,74 @@
+-- What a text is: refused with a number, a report that says nothing, or a whole one; and the same of the code's answer.
+-- Assumes nothing.
+use mathlib.Core.Bool.{Bool, cond}
+use mathlib.Core.List.{List}
+use Prim.Native.Nat.{ℕ}
+use lib.Dec.{eqb}
+use lib.ListN.{getD}
+use Rattle.codes.specs.Value as codes
+use Rattle.text.specs.Kinds.{tokens}
+use Rattle.text.specs.declared.Group.{Group}
+use Rattle.text.specs.declared.Group.the-variants.{Other}
+use Rattle.places.specs.Places.{begun, isNil, final, complete}
+use Rattle.checks.specs.Refusal.{ofGroups, refusal}
+use Rattle.places.specs.declared.Place.{Place}
+use Rattle.places.specs.declared.Place.the-variants.{Start}
+use Rattle.synop.specs.Parts as parts
+use Rattle.synop.specs.Parts.{firstOf}
+use Rattle.contents.specs.Contents.{headingOf, headOf, valuesOf, listed}
+use Rattle.contents.specs.declared.Heading.{Heading}
+use Rattle.contents.specs.declared.Head.{Head}
+use Rattle.synop.specs.declared.Report as code
+use Rattle.synop.specs.declared.Report.the-variants.{Refused, Nil, Whole}
+
+pub data Report : Type 0 where
+  refused : ℕ → Report
+  nil : Heading → Report
+  whole : Heading → Head → List codes.Value → Report
+
+-- ---- the parts together
+abbrev pub part : List Group → ℕ → Group
+part kept k = getD kept k Other
+
+-- "6RRRtR of section 1, or, where that group is not there, of section 3"
+abbrev pub rainGroup : List Group → Group
+rainGroup kept = firstOf (part kept parts.rain) (part kept parts.laterRain)
+
+-- the nine values, where rain is read from the group `rain`
+unfoldable pub valuesIn : List Group → Group → List codes.Value
+valuesIn kept rain =
+    valuesOf (part kept parts.time) (part kept parts.visibility) (part kept parts.wind) (part kept parts.gale)
+    (part kept parts.temperature)
+    (part kept parts.dewPoint)
+    (part kept parts.pressure)
+    rain
+    (part kept parts.maximum)
+    (part kept parts.minimum)
+
+-- ---- what a text is
+-- a report that passes, by the place of its last group and its parts
+unfoldable pub content : Place → List Group → Report
+content p kept =
+    cond (isNil p) (nil (headingOf (part kept parts.time) (part kept parts.station)))
+    (whole (headingOf (part kept parts.time) (part kept parts.station))
+    (headOf (part kept parts.visibility) (part kept parts.wind) (rainGroup kept))
+    (valuesIn kept (rainGroup kept)))
+
+-- n is the number of the first check that fails, or 0
+unfoldable pub read : ℕ → List Group → Report
+read n gs = cond (eqb n 0) (content (final Start gs) (parts.parts gs)) (refused n)
+
+-- the same from where a walk over the groups ends: the place of the last group, whether all were in range, and the parts. All had
+-- their shape.
+unfoldable pub answered : Place → Bool → List Group → Report
+answered p ranged kept = cond (begun p) (cond ranged (cond (complete p) (content p kept) (refused 5)) (refused 4)) (refused 3)
+
+-- what a text is
+unfoldable pub report : List ℕ → Report
+report s = read (refusal s) (tokens s)
+
+-- ---- the code's answer
+abbrev pub meaning : code.Report → Report
+meaning (Refused n) = refused n
+meaning (Nil h) = nil h
+meaning (Whole h d v) = whole h d (listed v)

@@ -1,0 +1,3 @@
+-- Laws of groups and kinds.
+mod Cuts
+mod Lengths
