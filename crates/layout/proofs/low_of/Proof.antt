@@ -1,0 +1,13 @@
+-- `layout::low_of` meets its contract.
+-- Assumes nothing.
+use native.Mathlib.Omega.{arith}
+use borrow.Author.Needs.{needs}
+use Rattle.layout.proofs.Numbers.{unsigned-value}
+use Rattle.layout.proofs.low_of.Statement.{statement}
+use Rattle.layout.proofs.low_of.Tie as tie
+
+returns : tie.Need-returns
+returns c = rw (unsigned-value (c .args .x) (omega arith)) (omega arith)
+
+pub low-of-spec : {M : Type 1} → statement M
+low-of-spec = tie.close (tie.spec (λ c. search needs) returns)

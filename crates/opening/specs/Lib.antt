@@ -1,0 +1,2 @@
+-- What opening answers, and the buffer that it leaves.
+pub mod Opened

@@ -1,0 +1,2 @@
+// Opening a store.
+pub mod open;

@@ -1,0 +1,2 @@
+-- What the search answers.
+pub mod Located

@@ -1,0 +1,3 @@
+// Which buffers are sound stores, and where a station lies in one.
+pub mod find;
+pub mod sound;
