@@ -1,0 +1,42 @@
+// The column of vapour pressures, in hundredths of hPa, from that of dew points.
+ghost use mathlib.Core.Path.{_≡_};
+ghost use Rattle.quality.specs.Coded.{cell, cells};
+ghost use Rattle.daily.specs.Means.{vapourCell, vapourColumn};
+use quality::column::Column;
+use quality::column::Datum;
+use quality::column::at;
+use quality::column::discard;
+use quality::column::put;
+use vapour::Pressure;
+
+// The vapour pressure at a dew point, with the dew point's state.
+fn vapour_cell(d: Datum) -> Datum
+    ensures { λ r. ⌜ cell r ≡ vapourCell (cell d) ⌝ }
+{
+    if d.state == 0 {
+        return discard(0);
+    }
+    match vapour::pressure(d.value) {
+        Pressure::Hundredths(e) => Datum {
+            state: d.state,
+            flag: d.flag,
+            value: 32768 + e,
+        },
+        Pressure::Missing => Datum {
+            state: 0,
+            flag: 0,
+            value: 32768,
+        },
+    }
+}
+
+pub fn vapour_column(c: Column) -> Column
+    ensures { λ r. ⌜ cells r ≡ vapourColumn (cells c) ⌝ }
+{
+    let mut r = c;
+    for k in 0..9 {
+        let x = vapour_cell(at(c, k));
+        r = put(r, k, x);
+    }
+    r
+}
