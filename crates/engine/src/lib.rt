@@ -1,0 +1,95 @@
+// The calls on a store of one day: open, file, settle, cell, day. No call has a `requires`: each answers on every buffer and argument, and
+// its contract gives the whole answer and every byte of the store at exit.
+pub mod answer;
+mod asking;
+mod filing;
+mod settling;
+
+ghost use mathlib.Core.Path.{_≡_};
+ghost use Rattle.layout.specs.Layout.{decode};
+ghost use Rattle.rules.specs.Calls as Calls;
+ghost use Rattle.engine.specs.Good.{Good};
+ghost use Rattle.engine.specs.Replies.{reply, cellReply, SaysDay, Did, openOutcome};
+ghost use Rattle.rules.specs.Step.{asked, step};
+use answer::CellReply;
+use answer::DayReply;
+use answer::Reply;
+use soundness::find::Located;
+use soundness::find::find;
+use soundness::find::locate;
+use synop::Report;
+
+// A store opened for a date and stations, each with its climate row: refused 10.
+pub fn open(
+    store: &mut [u8],
+    year: u32,
+    month: u32,
+    day: u32,
+    stations: &[u32],
+    rows: &[u16],
+) -> Reply
+    ensures { λ r. ⌜ Did (openOutcome (now (store .entry)) year month day (now (stations .entry)) (now (rows .entry))) (reply r) (now (store .exit)) ⌝ }
+{
+    if opening::open::open(store, year, month, day, stations, rows) {
+        return Reply::Accepted;
+    }
+    Reply::Refused(10)
+}
+
+// A report filed in a store that is known to be sound, for whoever has tested it (a bulletin does so once).
+pub fn file_in(store: &mut [u8], text: &[u8]) -> Reply
+    requires { ⌜ Good (now store) ⌝ }
+    ensures { λ r. ⌜ Did (asked (Calls.ask (Calls.file (now (text .entry)))) (decode (now (store .entry))) (now (store .entry))) (reply r) (now (store .exit)) ⌝ }
+{
+    match synop::read(text) {
+        Report::Refused(n) => Reply::Refused(n as u32),
+        Report::Nil(h) => filing::file_nil(store, h),
+        Report::Whole(h, head, values) => filing::file_whole(store, h, head, values),
+    }
+}
+
+// A report filed: refused 9, then 1 to 8.
+pub fn file(store: &mut [u8], text: &[u8]) -> Reply
+    ensures { λ r. ⌜ Did (step (Calls.file (now (text .entry))) (now (store .entry))) (reply r) (now (store .exit)) ⌝ }
+{
+    if !soundness::sound::is_sound(store) {
+        return Reply::Refused(9);
+    }
+    file_in(store, text)
+}
+
+// A station settled: refused 9, 6.
+pub fn settle(store: &mut [u8], station: u32) -> Reply
+    ensures { λ r. ⌜ Did (step (Calls.settle station) (now (store .entry))) (reply r) (now (store .exit)) ⌝ }
+{
+    match locate(store, station) {
+        Located::Unsound => Reply::Refused(9),
+        Located::Absent => Reply::Refused(6),
+        Located::At(place) => {
+            settling::settle_at(store, place);
+            Reply::Accepted
+        }
+    }
+}
+
+// One checked cell of a station, by element (0 to 8) and slot: refused 9, 6, 12, 11.
+pub fn cell(store: &[u8], station: u32, element: u32, slot: u32) -> CellReply
+    ensures { λ r. ⌜ cellReply r ≡ step (Calls.cell station element slot) (now (store .entry)) .answer ⌝ }
+{
+    match locate(store, station) {
+        Located::Unsound => CellReply::Refused(9),
+        Located::Absent => CellReply::Refused(6),
+        Located::At(place) => asking::cell_at(store, place, element, slot),
+    }
+}
+
+// The day line of a station: refused 9, 6, 11.
+pub fn day(store: &[u8], station: u32) -> DayReply
+    ensures { λ r. ⌜ SaysDay r (step (Calls.day station) (now (store .entry)) .answer) ⌝ }
+{
+    match locate(store, station) {
+        Located::Unsound => DayReply::Refused(9),
+        Located::Absent => DayReply::Refused(6),
+        Located::At(place) => asking::day_at(store, place),
+    }
+}

@@ -1,0 +1,141 @@
+-- Stores that hold a station, and what a call leaves of that: nothing of the store but its date and the station itself plays a part.
+--     Holds          the bytes are those of a valid store of that date, in which the station stands
+--     holds-own      after a call that names it
+--     holds-other    after any other call
+--     records-held   its records
+-- Assumes nothing.
+use mathlib.Core.Path.{_≡_, refl, sym, _∙_, ap, ap₂, subst}
+use mathlib.Core.Bool.{true, false, false≢true}
+use mathlib.Core.List.{List, _++_}
+use Prim.Native.Nat.{ℕ, _+_, _<_}
+use native.Mathlib.Omega.{arith}
+use borrow.Author.Tests.{eqb-true}
+use lib.ListN.{length, take, drop, length-append}
+use Rattle.layout.specs.Model.{Station, Store, stationAt}
+use Rattle.layout.specs.Valid.{ValidStation, ValidStore}
+use Rattle.layout.specs.Layout.{encode, decode, encodeEntry, encodeBlock, entryAt, entryLength, blockAt, blockLength}
+use Rattle.layout.specs.Place.{Place, place, placeIn, numbers}
+use Rattle.layout.specs.Deeds.{withStation}
+use Rattle.layout.proofs.Stores.{decode-encode, entry-in, block-in, length-entry}
+use Rattle.layout.proofs.Blocks.{length-block}
+use Rattle.layout.proofs.Models.{with-count, with-same, with-other}
+use Rattle.layout.proofs.Places.{finds}
+use Rattle.rules.specs.Calls.{Call, Answer, accepted, Ask, nobody, somebody, ask}
+use Rattle.rules.specs.Rules.{Date, Done, keeps, makes, rule}
+use Rattle.rules.specs.Step.{Outcome, dateOf, after, at, asked, step}
+use Rattle.rules.specs.Runs.{asks, names, recordsAt, records}
+use Rattle.rules.proofs.Kept.{Kept, valid-kept, AllLawful, doneBy, kept-by}
+use Rattle.rules.proofs.Steps.{step-encoded, Leaves, same, replaced, leaves}
+
+-- the station t, with the number x, stands in a valid store of the date d, and s are the bytes of that store
+pub record Holds (d : Date) (x : ℕ) (t : Station) (s : List ℕ) : Type 0 where
+  pub model : Store
+  pub valid : ValidStore model
+  pub bytes : s ≡ encode model
+  pub date : dateOf model ≡ d
+  pub index : ℕ
+  pub inside : index < length (model .stations)
+  pub station : stationAt (model .stations) index ≡ t
+  pub named : t .number ≡ x
+
+date-with : (i : ℕ) (t : Station) (m : Store) → dateOf (withStation i t m) ≡ dateOf m
+unfolding withStation
+date-with i t m = refl
+
+-- what a deed leaves: its answer, and the station
+abbrev pub answerOf : Done → Answer
+answerOf (keeps a) = a
+answerOf (makes u) = accepted
+
+abbrev pub stationOf : Done → Station → Station
+stationOf (keeps a) t = t
+stationOf (makes u) t = u
+
+after-answer : (r : Done) (i : ℕ) (m : Store) (s : List ℕ) → after r i m s .answer ≡ answerOf r
+after-answer (keeps a) i m s = refl
+after-answer (makes u) i m s = refl
+
+module _ {d : Date} {x : ℕ} {t : Station} {s : List ℕ} (h : Holds d x t s) where
+  place-held : placeIn (numbers (h .model)) x ≡ place (h .index)
+  place-held =
+      finds (h .model) (h .valid) x (h .index)
+      (record { inside = h .inside; named = ap (λ (u : Station). u .number) (h .station) ∙ h .named })
+
+  step-held : (c : Call) → step c s ≡ asked (ask c) (h .model) s
+  step-held c = ap (step c) (h .bytes) ∙ step-encoded c (h .model) (h .valid) ∙ ap (asked (ask c) (h .model)) (sym (h .bytes))
+
+  held-valid : ValidStation t
+  held-valid = subst ValidStation (h .station) (h .valid .each (h .index) (h .inside))
+
+  -- a station u put in the place of the j-th: what stands at the station's own place is held
+  put : (j : ℕ) (u v : Station) → Kept (stationAt (h .model .stations) j) u → stationAt (withStation j u (h .model) .stations) (h .index) ≡ v
+      → v .number ≡ x → Holds d x v (encode (withStation j u (h .model)))
+  put j u v k e n =
+      record {
+        model = withStation j u (h .model);
+        valid = valid-kept j u (h .model) (h .valid) k;
+        bytes = refl;
+        date = date-with j u (h .model) ∙ h .date;
+        index = h .index;
+        inside = rw (with-count j u (h .model)) (h .inside);
+        station = e;
+        named = n;
+      }
+
+  -- a call that names the station does what the rule says, of the date and the station
+  step-own : (c : Call) → names x c ≡ true → step c s ≡ after (doneBy d (ask c) t) (h .index) (h .model) s
+  step-own c e = step-held c ∙ go (ask c) e
+    where
+      go : (q : Ask) → asks q x ≡ true → asked q (h .model) s ≡ after (doneBy d q t) (h .index) (h .model) s
+      go (nobody n) b = refl
+      go (somebody y deed) b =
+          ap (λ (p : Place). at p (λ i. after (rule (dateOf (h .model)) deed (stationAt (h .model .stations) i)) i (h .model) s) s)
+          (ap (placeIn (numbers (h .model))) (eqb-true y x b) ∙ place-held)
+          ∙ ap₂ (λ (b : Date) (u : Station). after (rule b deed u) (h .index) (h .model) s) (h .date) (h .station)
+
+  pub answer-own : (c : Call) → names x c ≡ true → step c s .answer ≡ answerOf (doneBy d (ask c) t)
+  answer-own c e = ap (λ (o : Outcome). o .answer) (step-own c e) ∙ after-answer (doneBy d (ask c) t) (h .index) (h .model) s
+
+  -- ---- its records: the bytes of the station, whatever else the store holds
+  pub records-held : records x s ≡ encodeEntry t ++ encodeBlock (t .block)
+  unfolding records
+  records-held =
+      ap (λ (m : Store). recordsAt (placeIn (numbers m) x) (length (m .stations)) s) (ap decode (h .bytes) ∙ decode-encode (h .model) (h .valid))
+      ∙ ap (λ (p : Place). recordsAt p (length (h .model .stations)) s) place-held
+      ∙ ap₂ _++_ entry block
+    where
+      entry : take entryLength (drop (entryAt (h .index)) s) ≡ encodeEntry t
+      entry = rw (h .bytes) (entry-in (h .model) (h .index) (h .inside)) ∙ ap encodeEntry (h .station)
+
+      block : take blockLength (drop (blockAt (length (h .model .stations)) (h .index)) s) ≡ encodeBlock (t .block)
+      block = rw (h .bytes) (block-in (h .model) (h .index) (h .inside)) ∙ ap (λ (u : Station). encodeBlock (u .block)) (h .station)
+
+  pub records-long : length (records x s) ≡ entryLength + blockLength
+  records-long =
+      ap length records-held ∙ length-append (encodeEntry t) (encodeBlock (t .block)) ∙ omega (arith, length-entry t, length-block (t .block))
+
+  module _ (lawful : AllLawful) where
+    pub holds-own : (c : Call) → names x c ≡ true → Holds d x (stationOf (doneBy d (ask c) t) t) (step c s .store)
+    holds-own c e =
+        subst (λ (o : Outcome). Holds d x (stationOf (doneBy d (ask c) t) t) (o .store)) (sym (step-own c e)) (done (doneBy d (ask c) t) refl)
+      where
+        done : (r : Done) → doneBy d (ask c) t ≡ r → Holds d x (stationOf r t) (after r (h .index) (h .model) s .store)
+        done (keeps a) q = h
+        done (makes u) q =
+            let k = kept-by lawful c d t u held-valid q in
+            put (h .index) u u (rw (h .station) k) (with-same (h .index) u (h .model) (h .inside)) (k .number ∙ h .named)
+
+    pub holds-other : (c : Call) → names x c ≡ false → Holds d x t (step c s .store)
+    holds-other c f = rw (h .bytes) (go (leaves lawful c (h .model) (h .valid)))
+      where
+        own : names (stationAt (h .model .stations) (h .index) .number) c ≡ names x c
+        own = ap (λ (y : ℕ). names y c) (ap (λ (u : Station). u .number) (h .station) ∙ h .named)
+
+        apart : (j : ℕ) → names (stationAt (h .model .stations) j .number) c ≡ true → h .index ≡ j → ⊥
+        apart j n i =
+            false≢true (sym f ∙ sym own ∙ ap (λ (k : ℕ). names (stationAt (h .model .stations) k .number) c) i ∙ n)
+
+        go : Leaves c (h .model) (step c (encode (h .model)) .store) → Holds d x t (step c (encode (h .model)) .store)
+        go (same e) = subst (Holds d x t) (h .bytes ∙ sym e) h
+        go (replaced j u n k e) =
+            subst (Holds d x t) (sym e) (put j u t k (with-other j u (h .model) (h .index) (apart j n) ∙ h .station) (h .named))

@@ -1,0 +1,12 @@
+-- Demand 3, proved: what other stations' calls bring, and when, never shows in a station's records or answers.
+pub mod Compared
+pub mod Kept
+pub mod Steps
+pub mod Holding
+pub mod Own
+pub mod Isolation
+pub mod Deeds
+pub mod Reports
+pub mod Demand3
+pub mod WrongEngines
+pub mod Examples

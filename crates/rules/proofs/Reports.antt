@@ -1,0 +1,43 @@
+-- Every report that passes the checks fits a slot: its head is in range, and each of its nine values fits a cell.
+--     report-bounds
+-- Assumes nothing.
+use mathlib.Core.Path.{_≡_, subst}
+use mathlib.Core.Bool.{true}
+use mathlib.Core.List.{List, [], _∷_}
+use mathlib.Core.Logic.{inl, inr}
+use Prim.Native.Nat.{ℕ, zero, suc}
+use borrow.Author.Tests.{le-leb}
+use lib.ListN.{getD}
+use Rattle.codes.specs.Value.{Value, missing, Within}
+use Rattle.codes.proofs.Bounds.{Direction}
+use Rattle.contents.proofs.Ranges.{AllWithin}
+use Rattle.layout.specs.Valid.{isDirection}
+use Rattle.synop.specs.Report.{Report, report}
+use Rattle.synop.proofs.Ranges.{InRange, report-in-range}
+use Rattle.rules.proofs.Deeds.{Fits, ReportBounds}
+
+-- dd, as a test
+direction : (d : ℕ) → Direction d → isDirection d ≡ true
+direction d (inl l) = rw (le-leb d 36 l)
+direction d (inr (inl e)) = rw e
+direction d (inr (inr e)) = rw e
+
+-- each of a list's values fits a cell
+each-within : (vs : List Value) → AllWithin vs → (e : ℕ) → Within (getD vs e missing)
+each-within [] w e = tt
+each-within (v ∷ vs) w zero = w .0
+each-within (v ∷ vs) w (suc e) = each-within vs (w .1) e
+
+pub report-bounds : ReportBounds
+report-bounds =
+    record {
+      fits =
+          λ text h head values e.
+          let r = subst InRange e (report-in-range text) in
+          record {
+            indicator = r .1 .indicator;
+            duration = r .1 .duration;
+            direction = direction _ (r .1 .direction);
+            value = λ k l. each-within values (r .2 .each) k;
+          };
+    }

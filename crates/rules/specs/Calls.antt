@@ -1,0 +1,51 @@
+-- Calls, answers, and what a call asks of whom.
+-- Assumes nothing.
+use mathlib.Core.List.{List}
+use Prim.Native.Nat.{ℕ}
+use Rattle.codes.specs.Value.{Value}
+use Rattle.daily.specs.Line.{DayLine}
+use Rattle.quality.specs.Cell.{Cell}
+use Rattle.synop.specs.Report.{Report, report}
+use Rattle.contents.specs.declared.Head.{Head}
+
+-- "Two calls are the same if their kind and their arguments other than the store are, a text byte for byte."
+pub data Call : Type 0 where
+  file : List ℕ → Call
+  settle : ℕ → Call
+  cell : ℕ → ℕ → ℕ → Call
+  day : ℕ → Call
+
+-- "An answer is all that a call returns: a refusal's number, the whole cell or day line, or, from an accepted file or settle, that it was
+-- accepted."
+pub data Answer : Type 0 where
+  refused : ℕ → Answer
+  accepted : Answer
+  aCell : Cell → Answer
+  aDay : DayLine → Answer
+
+-- what is asked of a station: to take a NIL of that day and hour, to take a report with its head and nine values, to settle, to give the
+-- checked cell of an element and slot, to give its day line
+pub data Deed : Type 0 where
+  takeNil : ℕ → ℕ → Deed
+  take : ℕ → ℕ → Head → List Value → Deed
+  settling : Deed
+  giveCell : ℕ → ℕ → Deed
+  giveDay : Deed
+
+-- what a call asks: of nobody, with the number 1 to 5 of a text that does not pass; or of a station
+pub data Ask : Type 0 where
+  nobody : ℕ → Ask
+  somebody : ℕ → Deed → Ask
+
+-- "A filed text names S exactly if it passes checks 1 to 5 and its IIiii is S."
+abbrev pub askFile : Report → Ask
+askFile (Report.refused n) = nobody n
+askFile (Report.nil h) = somebody (h .station) (takeNil (h .day) (h .hour))
+askFile (Report.whole h head values) = somebody (h .station) (take (h .day) (h .hour) head values)
+
+-- "Settle, cell and day name theirs."
+abbrev pub ask : Call → Ask
+ask (file text) = askFile (report text)
+ask (settle s) = somebody s settling
+ask (cell s e k) = somebody s (giveCell e k)
+ask (day s) = somebody s giveDay
