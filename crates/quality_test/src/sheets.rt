@@ -210,20 +210,26 @@ fn show_cells(s: [Column; 9]) {
     }
 }
 
-// A sheet of a station that is by turns lowland and hill, in the months from July on: the first eight with their cells, the others by a
-// number each.
-fn show_sheet(n: u64)
+// The checked sheet of a station that is by turns lowland and hill, in the months from July on.
+fn checked(n: u64) -> [Column; 9]
     requires { ⌜ n < 200 ⌝ }
 {
     let row = (n % 2) as usize;
     let month = (n + 6) % 12 + 1;
-    let checked = settle(row, is_warm(month as u32), directions(n), raw_sheet(n));
+    settle(row, is_warm(month as u32), directions(n), raw_sheet(n))
+}
+
+// The first eight sheets with their cells, the others by a number each.
+fn show_sheet(n: u64)
+    requires { ⌜ n < 200 ⌝ }
+{
+    let s = checked(n);
     word(b"sheet");
     number(n);
-    number(checksum(checked));
+    number(checksum(s));
     end_line();
     if n < 8 {
-        show_cells(checked);
+        show_cells(s);
     }
 }
 
