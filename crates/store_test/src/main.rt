@@ -1,10 +1,17 @@
-// Opens stores, and sets every field of header, entry, slot head and cell to its boundaries and one past them. Each line has what
-// was set and the verdict; a line with a hash stands for all bytes of the buffer.
+// Opens stores; sets every field of header, entry, slot head and cell to its boundaries and one past them, by the cases of standard
+// input; and does the work on one station. A line with a hash stands for all bytes of the buffer.
 mod access;
-mod fields;
+mod cases;
 mod opens;
 mod show;
-mod store_fields;
+
+fn fields() {
+    let mut two = [0u8; 1400];
+    let mut buffer = [0u8; 16384];
+    let n = io::read_full(0, &mut buffer);
+    cases::cases(&mut two, &buffer[..n]);
+    cases::lengths(&two);
+}
 
 fn main() {
     opens::good();
@@ -12,6 +19,6 @@ fn main() {
     opens::unpaired();
     opens::dates();
     opens::lists();
-    store_fields::fields();
+    fields();
     access::one_station();
 }
