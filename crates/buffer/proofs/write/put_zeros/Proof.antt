@@ -1,4 +1,4 @@
--- `buffer::write::put_zeros` meets its contract.
+-- `buffer::write::put_zeros` meets its contract. The loop's invariant: the zeros laid so far.
 -- Assumes nothing.
 use mathlib.Core.Path.{refl, _∙_, ap}
 use mathlib.Core.List.{[], _∷_}

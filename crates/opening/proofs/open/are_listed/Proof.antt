@@ -1,4 +1,4 @@
--- `opening::open::are_listed` meets its contract.
+-- `opening::open::are_listed` meets its contract. The loop's invariant: each station passed is in order and passes its tests, and `last` is the last number.
 -- Assumes nothing.
 use mathlib.Core.Path.{_≡_, refl, _∙_}
 use Prim.Native.Nat.{_-_}

@@ -1,4 +1,4 @@
--- `opening::open::is_openable` meets its contract.
+-- `opening::open::is_openable` meets its contract. Each test that fails ends it; the last is the list's.
 -- Assumes nothing.
 use Rattle.laws.proofs.Rules.{tests}
 use Rattle.layout.specs.Opening.{openable}

@@ -1,4 +1,4 @@
--- `opening::open::open` meets its contract.
+-- `opening::open::open` meets its contract. Refused, nothing was written; accepted, all was.
 -- Assumes nothing.
 use mathlib.Core.Path.{sym, _∙_}
 use borrow.Author.Needs.{needs}

@@ -1,4 +1,4 @@
--- `opening::open::put_block` meets its contract.
+-- `opening::open::put_block` meets its contract. Heads and then zeros are the bytes of an empty block.
 -- Assumes nothing.
 use mathlib.Core.Path.{refl, _∙_, ap}
 use mathlib.Core.List.{[], _∷_}

@@ -1,4 +1,4 @@
--- `opening::open::put_blocks` meets its contract.
+-- `opening::open::put_blocks` meets its contract. The loop's invariant: the blocks laid so far.
 -- Assumes nothing.
 use Prim.Native.Nat.{_-_}
 use native.Mathlib.Omega.{arith}

@@ -1,4 +1,4 @@
--- `opening::open::put_entries` meets its contract.
+-- `opening::open::put_entries` meets its contract. The loop's invariant: the entries laid so far.
 -- Assumes nothing.
 use mathlib.Core.List.{_++_}
 use lib.ListN.{length, getD}

@@ -1,4 +1,4 @@
--- `opening::open::put_entry` meets its contract.
+-- `opening::open::put_entry` meets its contract. Three runs of bytes side by side.
 -- Assumes nothing.
 use mathlib.Core.Path.{refl}
 use mathlib.Core.List.{_++_}

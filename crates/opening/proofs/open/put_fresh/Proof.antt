@@ -1,4 +1,4 @@
--- `opening::open::put_fresh` meets its contract.
+-- `opening::open::put_fresh` meets its contract. Header, entries and blocks are laid one after the other, and are the whole store.
 -- Assumes nothing.
 use native.Mathlib.Omega.{arith}
 use borrow.Author.Needs.{needs}

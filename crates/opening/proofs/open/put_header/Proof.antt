@@ -1,4 +1,4 @@
--- `opening::open::put_header` meets its contract.
+-- `opening::open::put_header` meets its contract. The loop's invariant: the words laid so far.
 -- Assumes nothing.
 use native.Mathlib.Omega.{arith}
 use lib.ListN.{getD}

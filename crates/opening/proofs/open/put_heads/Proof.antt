@@ -1,4 +1,4 @@
--- `opening::open::put_heads` meets its contract.
+-- `opening::open::put_heads` meets its contract. The loop's invariant: the heads laid so far.
 -- Assumes nothing.
 use mathlib.Core.List.{[], _∷_}
 use mathlib.Core.Path.{refl}

@@ -1,4 +1,4 @@
--- `soundness::find::find` meets its contract.
+-- `soundness::find::find` meets its contract. The loop's invariant: no station passed has the number.
 -- Assumes nothing.
 use mathlib.Core.Path.{_≡_, sym, _∙_, ap}
 use Prim.Native.Nat.{ℕ, _-_, _<_, _≤_}

@@ -1,4 +1,4 @@
--- `soundness::find::locate` meets its contract.
+-- `soundness::find::locate` meets its contract. An unsound store first, and then the search's answer.
 -- Assumes nothing.
 use mathlib.Core.Path.{sym, _∙_}
 use borrow.Author.Needs.{needs}

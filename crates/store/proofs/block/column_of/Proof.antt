@@ -1,4 +1,4 @@
--- `store::block::column_of` meets its contract.
+-- `store::block::column_of` meets its contract. The loop's invariant: the cells read so far.
 -- Assumes nothing.
 use mathlib.Core.Path.{sym, _∙_, ap}
 use Prim.Native.Nat.{_-_}

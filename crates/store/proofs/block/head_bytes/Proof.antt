@@ -1,4 +1,4 @@
--- `store::block::head_bytes` meets its contract.
+-- `store::block::head_bytes` meets its contract. The loop's invariant: the bytes read so far.
 -- Assumes nothing.
 use mathlib.Core.Path.{refl}
 use Prim.Native.Nat.{_-_, _+_}

@@ -1,4 +1,4 @@
--- `store::block::put_checked` meets its contract.
+-- `store::block::put_checked` meets its contract. The loop's invariant: what is read of the block has the column's cells put so far.
 -- Assumes nothing.
 use mathlib.Core.Path.{_∙_, ap}
 use Prim.Native.Nat.{_-_}

@@ -13,7 +13,7 @@ returns : tie.Need-returns
 unfolding decodeHead encodeHead
 returns c =
     let a = c .before .before .before .before .before .args in
-    ap decodeBlock (c .before .before .put-four .ensures) ∙ head-written (now (a .block)) (encodeHead (head (a .h))) refl (search needs) (a .k) (search needs)
+    ap decodeBlock (c .before .before .put-four .ensures) ∙ head-written (now (a .block)) (encodeHead (head (a .h))) (search needs) refl (a .k) (search needs)
 
 pub put-head-spec : {M : Type 1} → statement M
 put-head-spec =

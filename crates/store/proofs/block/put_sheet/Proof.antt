@@ -1,4 +1,4 @@
--- `store::block::put_sheet` meets its contract.
+-- `store::block::put_sheet` meets its contract. The loop's invariant: what is read of the block has the columns put so far.
 -- Assumes nothing.
 use mathlib.Core.Path.{refl, sym, _∙_, ap}
 use mathlib.Core.List.{[]}

@@ -1,4 +1,4 @@
--- `store::block::put_slot` meets its contract.
+-- `store::block::put_slot` meets its contract. The loop's invariant: what is read of the block has the elements' cells put so far.
 -- Assumes nothing.
 use mathlib.Core.Path.{refl, _∙_, ap}
 use mathlib.Core.List.{[], map}

@@ -1,4 +1,4 @@
--- `store::block::sheet_of` meets its contract.
+-- `store::block::sheet_of` meets its contract. The loop's invariant: the columns read so far.
 -- Assumes nothing.
 use mathlib.Core.Path.{refl, sym, _∙_}
 use mathlib.Core.List.{[]}

@@ -1,4 +1,4 @@
--- `store_test::access::in_part` meets its contract.
+-- `store_test::access::in_part` is safe and ends.
 -- Assumes nothing.
 use mathlib.Core.Path.{sym}
 use lib.Seq.{length-take-le}

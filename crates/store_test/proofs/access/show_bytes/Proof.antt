@@ -1,4 +1,4 @@
--- `store_test::access::show_bytes` meets its contract.
+-- `store_test::access::show_bytes` is safe and ends.
 -- Assumes nothing.
 use Prim.Native.Nat.{_-_}
 use borrow.Author.Needs.{needs}

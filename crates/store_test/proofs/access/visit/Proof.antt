@@ -1,4 +1,4 @@
--- `store_test::access::visit` meets its contract.
+-- `store_test::access::visit` is safe and ends.
 -- Assumes nothing.
 use mathlib.Core.Path.{sym, _∙_}
 use Rattle.soundness.proofs.Locations.{located-framed, located-below}

@@ -1,4 +1,4 @@
--- `store_test::cases::cases` meets its contract.
+-- `store_test::cases::cases` is safe and ends.
 -- Assumes nothing.
 use mathlib.Core.Path.{_≡_}
 use Prim.Native.Nat.{_-_}

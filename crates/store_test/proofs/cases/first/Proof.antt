@@ -1,4 +1,4 @@
--- `store_test::cases::first` meets its contract.
+-- `store_test::cases::first` is safe and ends.
 -- Assumes nothing.
 use mathlib.Core.Path.{sym}
 use lib.Seq.{length-take-le}

@@ -1,4 +1,4 @@
--- `store_test::opens::first` meets its contract.
+-- `store_test::opens::first` is safe and ends.
 -- Assumes nothing.
 use mathlib.Core.Path.{sym}
 use lib.Seq.{length-take-le}

@@ -1,4 +1,4 @@
--- `store_test::opens::rows` meets its contract.
+-- `store_test::opens::rows` is safe and ends.
 -- Assumes nothing.
 use mathlib.Core.Path.{_≡_}
 use Prim.Native.Nat.{_-_}

@@ -1,4 +1,4 @@
--- `store_test::show::sum` meets its contract.
+-- `store_test::show::sum` is safe and ends.
 -- Assumes nothing.
 use Prim.Native.Nat.{_-_}
 use lib.ListN.{length}
