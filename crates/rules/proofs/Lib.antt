@@ -1,4 +1,4 @@
--- Demand 3, proved: what other stations' calls bring, and when, never shows in a station's records or answers.
+-- Demand 3 and the proof table, proved: what other stations' calls bring, and when, never shows in a station's records or answers.
 pub mod Compared
 pub mod Kept
 pub mod Steps
@@ -10,3 +10,4 @@ pub mod Reports
 pub mod Demand3
 pub mod WrongEngines
 pub mod Examples
+pub mod ProofTable

@@ -5,3 +5,4 @@ pub mod Rules
 pub mod Step
 pub mod Runs
 pub mod Isolation
+pub mod ProofTable
