@@ -1,0 +1,42 @@
+/* The calls on a store of one day, for C. Link libcapi.a (`rt staticlib capi`).
+   Each call returns 0 or the refusal's number (1 to 12); a refusal changes no byte of the store and of the arrays. */
+#ifndef ESFENRUK_H
+#define ESFENRUK_H
+
+#include <stddef.h>
+#include <stdint.h>
+
+#ifdef __cplusplus
+extern "C" {
+#endif
+
+/* The store's length in bytes for n stations, 1 to 32. */
+#define ESFENRUK_LENGTH(n) (16 + 692 * (size_t)(n))
+
+/* Opens a store for a date and stations, ascending, each with its climate row (0 lowland, 1 hill): 0 or 10. */
+uint32_t esfenruk_open(uint8_t *store, size_t store_length, uint32_t year, uint32_t month, uint32_t day,
+                       const uint32_t *stations, size_t stations_length, const uint16_t *rows, size_t rows_length);
+
+/* Files a report: 0, or 9, 1 to 8. */
+uint32_t esfenruk_file(uint8_t *store, size_t store_length, const uint8_t *text, size_t text_length);
+
+/* Settles a station: 0, or 9, 6. */
+uint32_t esfenruk_settle(uint8_t *store, size_t store_length, uint32_t station);
+
+/* One checked cell, by element (0 to 8: T, D, P, W, C, V, R, X, M) and slot (0 to 8): 0, or 9, 6, 12, 11.
+   out: state, flag, value. */
+uint32_t esfenruk_cell(const uint8_t *store, size_t store_length, uint32_t station, uint32_t element, uint32_t slot,
+                       int32_t out[3]);
+
+/* The day line of a station: 0, or 9, 6, 11.
+   means: T, D, P, W, C, vapour pressure; 0.0 where absent.
+   numbers: 0 to 5 the kind of each mean (0 absent, 1 read, 2 mended); 6 whether there is rain (0, 1); 7 the rain in tenths
+   of mm (0 where absent); 8, 9 the warmest and the coldest slot (-1 where absent); 10 to 13 how many of the 81 cells are
+   read, corrected, filled, missing. */
+uint32_t esfenruk_day(const uint8_t *store, size_t store_length, uint32_t station, double means[6], int32_t numbers[14]);
+
+#ifdef __cplusplus
+}
+#endif
+
+#endif

@@ -1,0 +1,202 @@
+//! The benchmark: the engine and the plain Rust of this crate, which makes the same checks, on the
+//! same inputs. The two take turns, and the ratio is the median of the turns' ratios.
+//! bench [TURNS]
+
+use reading::calls::{Calls, Engine, Reference};
+use std::hint::black_box;
+use std::time::Instant;
+
+const STATIONS: u32 = 32;
+const DATE: [u32; 3] = [2024, 4, 11];
+
+/// One measured piece of work: so many calls, on a copy of a store.
+struct Work {
+    name: &'static str,
+    /// What a nanosecond figure is for.
+    unit: &'static str,
+    units: u32,
+    store: Vec<u8>,
+    /// Makes the calls; the sum of all that they answer, so that both can be seen to do the same.
+    run: Run,
+}
+
+type Run = Box<dyn Fn(&dyn Calls, &mut [u8]) -> u64>;
+
+fn main() {
+    let turns: usize = std::env::args().nth(1).map_or(201, |word| word.parse().expect("bench [TURNS]"));
+    println!("engine: {}; {turns} turns", reading::ENGINE);
+    let works = works();
+    println!("{:52} {:>12} {:>12} {:>7}", "", "plain Rust", "engine", "ratio");
+    let mut figures = Vec::new();
+    for work in works {
+        let (plain, engine, ratio) = measure(&work, turns);
+        println!(
+            "{:52} {plain:9.0} ns {engine:9.0} ns {ratio:7.2}",
+            format!("{}, a {}", work.name, work.unit)
+        );
+        figures.push((plain, engine));
+    }
+    let (single, bulletin) = (figures[0], figures[1]);
+    println!(
+        "{:52} {:9.1} x  {:9.1} x",
+        "reports a second, bulletins to single",
+        single.0 / bulletin.0,
+        single.1 / bulletin.1
+    );
+}
+
+/// Nanoseconds a unit for both (medians), and the median ratio.
+fn measure(work: &Work, turns: usize) -> (f64, f64, f64) {
+    let (mut plain, mut engine, mut ratios) = (Vec::new(), Vec::new(), Vec::new());
+    for turn in 0..turns + 2 {
+        // Each goes first every other turn.
+        let (p, e) = if turn % 2 == 0 {
+            let p = once(work, &Reference);
+            (p, once(work, &Engine))
+        } else {
+            let e = once(work, &Engine);
+            (once(work, &Reference), e)
+        };
+        assert_eq!(p.1, e.1, "{}: the answers differ", work.name);
+        // The first two turns warm up.
+        if turn >= 2 {
+            plain.push(p.0);
+            engine.push(e.0);
+            ratios.push(e.0 / p.0);
+        }
+    }
+    (median(plain), median(engine), median(ratios))
+}
+
+/// Nanoseconds a unit, and the answers.
+fn once(work: &Work, calls: &dyn Calls) -> (f64, u64) {
+    let mut store = work.store.clone();
+    let start = Instant::now();
+    let sum = (work.run)(black_box(calls), black_box(&mut store));
+    let time = start.elapsed();
+    (time.as_nanos() as f64 / f64::from(work.units), black_box(sum))
+}
+
+fn median(mut values: Vec<f64>) -> f64 {
+    values.sort_by(f64::total_cmp);
+    values[values.len() / 2]
+}
+
+// ---- The inputs ----
+
+fn station(index: u32) -> u32 {
+    40001 + 7 * index
+}
+
+/// YYGGiw of a slot of 2024-04-11.
+fn heading(slot: u32) -> String {
+    let (day, hour) = if slot < 6 { (11, 6 + 3 * slot) } else { (12, 3 * (slot - 6)) };
+    format!("{day}{hour:02}1")
+}
+
+/// A report of about 80 bytes, without its heading and `=`.
+fn body(index: u32, slot: u32) -> String {
+    let t = 80 + 3 * (index % 20) + [0, 20, 45, 60, 50, 30, 15, 5, 8][slot as usize];
+    format!(
+        "{:05} 113{:02} {}{:02}{:02} 10{:03} 20{:03} 30{:03} 40{:03} 52012 60{:02}1 333 10{:03} 20{:03}",
+        station(index),
+        50 + (index + slot) % 40,
+        (index + slot) % 9,
+        1 + (index * 5 + slot) % 36,
+        1 + (index + slot) % 15,
+        t,
+        t - 30 - index % 10,
+        100 + slot,
+        130 + (index + slot) % 40,
+        1 + (index + slot) % 30,
+        t + 20,
+        t - 40,
+    )
+}
+
+fn works() -> Vec<Work> {
+    let reports: Vec<Vec<u8>> = (0..9)
+        .flat_map(|slot| {
+            (0..STATIONS).map(move |i| format!("AAXX {} {}=", heading(slot), body(i, slot)).into_bytes())
+        })
+        .collect();
+    let bulletins: Vec<Vec<u8>> = (0..9)
+        .map(|slot| {
+            let reports = (0..STATIONS).map(|i| format!("\r\n{}=", body(i, slot)));
+            format!("AAXX {}{}\r\n", heading(slot), reports.collect::<String>()).into_bytes()
+        })
+        .collect();
+    let stations: Vec<u32> = (0..STATIONS).map(station).collect();
+    let [year, month, day] = DATE;
+    let mut opened = vec![0; 16 + 692 * STATIONS as usize];
+    assert_eq!(Reference.open(&mut opened, year, month, day, &stations, &[0; STATIONS as usize]), 0);
+    let mut filed = opened.clone();
+    assert!(reports.iter().all(|text| Reference.file(&mut filed, text) == 0));
+    let mut settled = filed.clone();
+    assert!(stations.iter().all(|&station| Reference.settle(&mut settled, station) == 0));
+    let bytes: usize = reports.iter().map(Vec::len).sum();
+    println!("{} reports of {} bytes on average", reports.len(), bytes / reports.len());
+
+    let all = stations.clone();
+    let lines = stations;
+    vec![
+        Work {
+            name: "288 reports at 32 stations, one by one",
+            unit: "report",
+            units: 288,
+            store: opened.clone(),
+            run: Box::new(move |calls, store| {
+                reports.iter().map(|text| u64::from(calls.file(store, text))).sum()
+            }),
+        },
+        Work {
+            name: "the same in 9 bulletins",
+            unit: "report",
+            units: 288,
+            store: opened,
+            run: Box::new(move |calls, store| {
+                let mut counts = [0; 2];
+                let mut sum = 0;
+                for text in &bulletins {
+                    sum += u64::from(calls.bulletin(store, text, &mut counts));
+                    sum += u64::from(counts[0]) + 1000 * u64::from(counts[1]);
+                }
+                sum
+            }),
+        },
+        Work {
+            name: "settling 32 stations",
+            unit: "station",
+            units: 32,
+            store: filed,
+            run: Box::new(move |calls, store| {
+                all.iter().map(|&station| u64::from(calls.settle(store, station))).sum()
+            }),
+        },
+        Work {
+            name: "32 day lines",
+            unit: "line",
+            units: 32,
+            store: settled.clone(),
+            run: Box::new(move |calls, store| {
+                let (mut means, mut numbers) = ([0.0; 6], [0; 14]);
+                let mut sum = 0;
+                for &station in &lines {
+                    sum += u64::from(calls.day(store, station, &mut means, &mut numbers));
+                    sum += (means[0] * 8.0) as u64 + numbers[7] as u64 + numbers[10] as u64;
+                }
+                sum
+            }),
+        },
+        Work {
+            name: "soundness alone, of 32 stations",
+            unit: "test",
+            units: 100,
+            store: settled,
+            // The cell of an absent station: a sound store is refused 6.
+            run: Box::new(|calls, store| {
+                (0..100).map(|_| u64::from(calls.cell(black_box(store), 99999, 0, 0, &mut [0; 3]))).sum()
+            }),
+        },
+    ]
+}

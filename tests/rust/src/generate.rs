@@ -1,0 +1,357 @@
+//! Calls to compare two engines on, made from a seed: the same seed gives the same calls.
+//!
+//! A run is made of episodes; an episode is a short life of one buffer.
+
+pub mod rng;
+pub mod stores;
+pub mod texts;
+
+use crate::calls::Calls;
+use crate::reference::store::length;
+use rng::Rng;
+use std::fmt;
+use stores::{Edits, Opening};
+use texts::Weather;
+
+/// One call with its arguments.
+#[derive(Clone, Debug)]
+pub enum Call {
+    Open(Opening),
+    File { text: Vec<u8> },
+    Settle { station: u32 },
+    Cell { station: u32, element: u32, slot: u32 },
+    Day { station: u32 },
+    Bulletin { text: Vec<u8> },
+}
+
+/// All that a call returns. The arrays start with values that no call gives, so that a refusal
+/// that writes to one is seen. Floats are kept by their bits.
+#[derive(Clone, Debug, PartialEq, Eq)]
+pub struct Answer {
+    pub number: u32,
+    pub cell: [i32; 3],
+    pub means: [u64; 6],
+    pub numbers: [i32; 14],
+    pub counts: [u32; 2],
+}
+
+impl Call {
+    pub fn name(&self) -> &'static str {
+        match self {
+            Call::Open(_) => "open",
+            Call::File { .. } => "file",
+            Call::Settle { .. } => "settle",
+            Call::Cell { .. } => "cell",
+            Call::Day { .. } => "day",
+            Call::Bulletin { .. } => "bulletin",
+        }
+    }
+
+    pub fn make(&self, calls: &dyn Calls, store: &mut [u8]) -> Answer {
+        let (mut cell, mut means, mut numbers, mut counts) =
+            ([-99; 3], [-12345.5; 6], [-9999; 14], [99999; 2]);
+        let number = match self {
+            Call::Open(o) => calls.open(store, o.year, o.month, o.day, &o.stations, &o.rows),
+            Call::File { text } => calls.file(store, text),
+            Call::Settle { station } => calls.settle(store, *station),
+            Call::Cell { station, element, slot } => calls.cell(store, *station, *element, *slot, &mut cell),
+            Call::Day { station } => calls.day(store, *station, &mut means, &mut numbers),
+            Call::Bulletin { text } => calls.bulletin(store, text, &mut counts),
+        };
+        Answer { number, cell, means: means.map(f64::to_bits), numbers, counts }
+    }
+}
+
+impl Answer {
+    /// What this call gives, in words.
+    pub fn shown(&self, call: &Call) -> String {
+        let Answer { number, cell, means, numbers, counts } = self;
+        match call {
+            Call::Cell { .. } => format!("{number}, cell {cell:?}"),
+            Call::Day { .. } => {
+                format!("{number}, means {:?}, numbers {numbers:?}", means.map(f64::from_bits))
+            }
+            Call::Bulletin { .. } => format!("{number}, counts {counts:?}"),
+            _ => format!("{number}"),
+        }
+    }
+}
+
+impl fmt::Display for Call {
+    fn fmt(&self, f: &mut fmt::Formatter) -> fmt::Result {
+        match self {
+            Call::Open(o) => {
+                write!(f, "open {} {} {} {:?} {:?}", o.year, o.month, o.day, o.stations, o.rows)
+            }
+            Call::File { text } => write!(f, "file \"{}\"", text.escape_ascii()),
+            Call::Settle { station } => write!(f, "settle {station}"),
+            Call::Cell { station, element, slot } => write!(f, "cell {station} {element} {slot}"),
+            Call::Day { station } => write!(f, "day {station}"),
+            Call::Bulletin { text } => write!(f, "bulletin \"{}\"", text.escape_ascii()),
+        }
+    }
+}
+
+/// One step of an episode.
+#[derive(Clone, Debug)]
+pub enum Step {
+    /// A buffer to work on from now on.
+    Lend(Vec<u8>),
+    Call(Call),
+    /// A call on the buffer with some bytes changed; they are put back where the call is refused 9,
+    /// so that the buffer stays of use.
+    Damaged {
+        edits: Edits,
+        call: Call,
+    },
+}
+
+/// The steps of the episode of a seed.
+pub fn episode(seed: u64) -> Vec<Step> {
+    let mut rng = Rng::new(seed);
+    match rng.below(100) {
+        0..=29 => full_day(&mut rng),
+        30..=59 => mixed(&mut rng),
+        60..=79 => texts_only(&mut rng),
+        80..=91 => hand_made(&mut rng),
+        92..=95 => wrong_lengths(&mut rng),
+        _ => openings(&mut rng),
+    }
+}
+
+/// A store's day and stations, and the weather at each.
+struct Scene {
+    opening: Opening,
+    weather: Vec<Weather>,
+}
+
+impl Scene {
+    fn new(rng: &mut Rng) -> Scene {
+        let opening = Opening::good(rng);
+        let weather = opening.stations.iter().map(|_| Weather::new(rng)).collect();
+        Scene { opening, weather }
+    }
+
+    fn start(&self, rng: &mut Rng) -> Vec<Step> {
+        let buffer = rng.bytes(length(self.opening.stations.len()));
+        vec![Step::Lend(buffer), Step::Call(Call::Open(self.opening.clone()))]
+    }
+
+    /// A report's groups for a station and slot of the store.
+    fn report(&mut self, rng: &mut Rng, index: usize, slot: usize) -> Vec<Vec<u8>> {
+        texts::report(rng, &self.opening, self.opening.stations[index], slot, &mut self.weather[index])
+    }
+
+    /// A report's groups for any station and slot, mostly of the store.
+    fn any_report(&mut self, rng: &mut Rng) -> Vec<Vec<u8>> {
+        let index = rng.below(self.weather.len());
+        let station = self.any_station(rng, index);
+        let slot = rng.below(9);
+        texts::report(rng, &self.opening, station.min(99999), slot, &mut self.weather[index])
+    }
+
+    /// A station's number, mostly the one at the index.
+    fn any_station(&self, rng: &mut Rng, index: usize) -> u32 {
+        let station = self.opening.stations[index];
+        match rng.below(20) {
+            0 => rng.pick(&[0, 1, 99999, 100000, u32::MAX, 1 << 31]),
+            1 => station.wrapping_add(rng.pick(&[1, u32::MAX, 1 << 16, 1 << 17, 1 << 31])),
+            _ => station,
+        }
+    }
+
+    fn any_call(&mut self, rng: &mut Rng) -> Call {
+        let index = rng.below(self.weather.len());
+        let station = self.any_station(rng, index);
+        match rng.below(20) {
+            0..=7 => Call::File { text: self.any_text(rng) },
+            8..=10 => Call::Settle { station },
+            11..=14 => Call::Cell { station, element: any_index(rng), slot: any_index(rng) },
+            15..=17 => Call::Day { station },
+            _ => Call::Bulletin { text: self.any_bulletin(rng) },
+        }
+    }
+
+    /// A text to file: mostly a report, at times damaged or no report at all.
+    fn any_text(&mut self, rng: &mut Rng) -> Vec<u8> {
+        let mut groups = self.any_report(rng);
+        match rng.below(10) {
+            0..=5 => texts::join(rng, &groups),
+            6 => {
+                let text = texts::join(rng, &groups);
+                texts::damage(rng, text)
+            }
+            7 => {
+                texts::damage_groups(rng, &mut groups);
+                texts::join(rng, &groups)
+            }
+            8 => {
+                texts::soup(rng, &mut groups);
+                texts::join(rng, &groups)
+            }
+            _ => texts::noise(rng, &groups),
+        }
+    }
+
+    /// A bulletin: reports of one hour, at times damaged or no bulletin at all.
+    fn any_bulletin(&mut self, rng: &mut Rng) -> Vec<u8> {
+        let slot = rng.below(9);
+        let count = if rng.chance(30) { rng.below(40) } else { rng.below(6) };
+        let mut reports = Vec::new();
+        for _ in 0..count {
+            let index = rng.below(self.weather.len());
+            let mut groups = self.report(rng, index, slot);
+            match rng.below(12) {
+                0 => texts::damage_groups(rng, &mut groups),
+                1 => texts::soup(rng, &mut groups),
+                2 => texts::near_limit(rng, &mut groups),
+                _ => {}
+            }
+            reports.push(groups.split_off(2.min(groups.len())));
+        }
+        let heading = texts::heading(rng, &self.opening, slot);
+        let text = texts::bulletin(rng, &heading, &reports);
+        match rng.below(10) {
+            0 | 1 => texts::damage(rng, text),
+            2 => texts::pad_bulletin(rng, text),
+            _ => text,
+        }
+    }
+}
+
+/// An element or slot: mostly 0 to 8.
+fn any_index(rng: &mut Rng) -> u32 {
+    match rng.below(12) {
+        0 => rng.pick(&[9, 10, 255, 256, 264, 65536, 1 << 31, u32::MAX]),
+        _ => rng.below(11) as u32,
+    }
+}
+
+/// A day as it should be: most reports of most slots come, then all is settled and read; then some more.
+fn full_day(rng: &mut Rng) -> Vec<Step> {
+    let mut scene = Scene::new(rng);
+    let mut steps = scene.start(rng);
+    let n = scene.weather.len();
+    let lost = rng.pick(&[0, 0, 5, 15, 40]);
+    if rng.chance(70) {
+        let mut order: Vec<(usize, usize)> = (0..9).flat_map(|slot| (0..n).map(move |i| (i, slot))).collect();
+        if rng.chance(50) {
+            rng.shuffle(&mut order);
+        }
+        for (index, slot) in order {
+            if !rng.chance(lost) {
+                let groups = scene.report(rng, index, slot);
+                steps.push(Step::Call(Call::File { text: texts::join(rng, &groups) }));
+            }
+        }
+    } else {
+        for slot in 0..9 {
+            let mut reports = Vec::new();
+            for index in 0..n {
+                if !rng.chance(lost) {
+                    reports.push(scene.report(rng, index, slot).split_off(2));
+                }
+            }
+            let heading = texts::heading_of(rng, &scene.opening, slot);
+            steps.push(Step::Call(Call::Bulletin { text: texts::bulletin(rng, &heading, &reports) }));
+        }
+    }
+    for &station in &scene.opening.stations {
+        steps.push(Step::Call(Call::Settle { station }));
+        steps.push(Step::Call(Call::Day { station }));
+        for _ in 0..rng.below(8) {
+            let (element, slot) = (rng.below(9) as u32, rng.below(9) as u32);
+            steps.push(Step::Call(Call::Cell { station, element, slot }));
+        }
+    }
+    for _ in 0..rng.below(12) {
+        steps.push(Step::Call(scene.any_call(rng)));
+    }
+    steps
+}
+
+/// All calls on all stations in any order, with right and wrong arguments.
+fn mixed(rng: &mut Rng) -> Vec<Step> {
+    let mut scene = Scene::new(rng);
+    let mut steps = scene.start(rng);
+    for _ in 0..20 + rng.below(80) {
+        let call = scene.any_call(rng);
+        steps.push(if rng.chance(8) { damaged(rng, &scene.opening, call) } else { Step::Call(call) });
+    }
+    steps
+}
+
+/// Texts good and bad. The store is opened anew now and then, so that slots are free.
+fn texts_only(rng: &mut Rng) -> Vec<Step> {
+    let mut scene = Scene::new(rng);
+    let mut steps = scene.start(rng);
+    for _ in 0..20 + rng.below(60) {
+        if rng.chance(10) {
+            steps.push(Step::Call(Call::Open(scene.opening.clone())));
+        }
+        steps.push(Step::Call(if rng.chance(15) {
+            Call::Bulletin { text: scene.any_bulletin(rng) }
+        } else if rng.chance(10) {
+            let mut groups = scene.any_report(rng);
+            texts::near_limit(rng, &mut groups);
+            Call::File { text: texts::join_to_limit(rng, &groups) }
+        } else {
+            Call::File { text: scene.any_text(rng) }
+        }));
+    }
+    steps
+}
+
+/// Sound buffers that no run of calls leaves, and single bytes of them changed.
+fn hand_made(rng: &mut Rng) -> Vec<Step> {
+    let mut scene = Scene::new(rng);
+    let mut steps = vec![Step::Lend(stores::hand_made(rng, &scene.opening))];
+    for _ in 0..20 + rng.below(40) {
+        let index = rng.below(scene.weather.len());
+        let station = scene.opening.stations[index];
+        let call = match rng.below(10) {
+            0..=2 => Call::Settle { station },
+            3..=6 => Call::Day { station },
+            _ => scene.any_call(rng),
+        };
+        steps.push(if rng.chance(50) { damaged(rng, &scene.opening, call) } else { Step::Call(call) });
+        if rng.chance(15) {
+            steps.push(Step::Lend(stores::hand_made(rng, &scene.opening)));
+        }
+    }
+    steps
+}
+
+fn damaged(rng: &mut Rng, opening: &Opening, call: Call) -> Step {
+    Step::Damaged { edits: stores::any_edits(rng, opening.stations.len()), call }
+}
+
+/// Buffers of lengths that no store has, or another store's.
+fn wrong_lengths(rng: &mut Rng) -> Vec<Step> {
+    let mut scene = Scene::new(rng);
+    let mut steps = Vec::new();
+    for _ in 0..10 + rng.below(20) {
+        steps.push(Step::Lend(stores::wrong_length(rng, &scene.opening)));
+        steps.push(Step::Call(scene.any_call(rng)));
+    }
+    steps
+}
+
+/// Openings, right and wrong, on buffers that hold anything.
+fn openings(rng: &mut Rng) -> Vec<Step> {
+    let mut steps = Vec::new();
+    for _ in 0..20 + rng.below(20) {
+        let mut opening = Opening::good(rng);
+        let mut len = length(opening.stations.len());
+        if rng.chance(80) {
+            opening.spoil(rng, &mut len);
+        }
+        steps.push(Step::Lend(rng.bytes(len)));
+        steps.push(Step::Call(Call::Open(opening.clone())));
+        let mut scene = Scene { weather: vec![Weather::new(rng)], opening };
+        if !scene.opening.stations.is_empty() && scene.opening.has_slots() {
+            steps.push(Step::Call(scene.any_call(rng)));
+        }
+    }
+    steps
+}

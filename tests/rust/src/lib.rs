@@ -1,0 +1,29 @@
+//! The paper read a second time, in plain Rust, and what compares that reading with the engine.
+
+#![allow(clippy::manual_is_multiple_of, clippy::needless_range_loop)]
+
+pub mod calls;
+pub mod comparison;
+pub mod dayline;
+pub mod generate;
+pub mod reference;
+
+#[cfg(feature = "engine")]
+pub mod engine;
+#[cfg(feature = "mock")]
+pub mod mock;
+
+/// What stands behind the calls of `Engine`.
+#[cfg(feature = "engine")]
+pub const ENGINE: &str = if cfg!(feature = "mock") {
+    "mock"
+} else if cfg!(feature = "no_bulletin") {
+    "libcapi.a, bulletins by the reference"
+} else {
+    "libcapi.a"
+};
+
+#[cfg(all(feature = "capi", feature = "mock"))]
+compile_error!("choose one engine: the feature `capi` or the feature `mock`");
+#[cfg(all(feature = "engine", not(feature = "capi"), not(feature = "mock")))]
+compile_error!("the feature `engine` needs the feature `capi` or the feature `mock`");

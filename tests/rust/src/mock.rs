@@ -1,0 +1,184 @@
+//! A stand-in for libcapi.a: the reference behind the same C names, right or with one fault, to see
+//! that the comparison notices.
+
+use crate::calls::{Calls, Reference};
+use std::slice;
+use std::sync::atomic::{AtomicUsize, Ordering};
+
+/// What the mock can do wrong; the first is nothing.
+pub const FAULTS: [&str; 17] = [
+    "no fault",
+    "open leaves the last byte as it was",
+    "a refused open writes a byte",
+    "open wraps the year at 16 bits",
+    "file answers 3 for 5",
+    "filing leaves the station settled",
+    "filing a slot again clears settled",
+    "NIL clears settled",
+    "settle loses the flag of a corrected cell",
+    "cell tests 11 before 12",
+    "a refused cell writes its array",
+    "a mended mean is one unit in the last place too high",
+    "rain that is absent is given as 0",
+    "a refused day writes its arrays",
+    "bulletin counts a blank tail",
+    "bulletin refuses 16384 bytes",
+    "day does not test the last number of the header",
+];
+
+static FAULT: AtomicUsize = AtomicUsize::new(0);
+
+/// Chooses the fault of every call from now on.
+pub fn set_fault(fault: usize) {
+    FAULT.store(fault, Ordering::Relaxed);
+}
+
+fn fault(number: usize) -> bool {
+    FAULT.load(Ordering::Relaxed) == number
+}
+
+// The pointers are those of `engine.rs`: of slices and arrays that are lent for the call.
+unsafe fn lent<'a>(store: *const u8, len: usize) -> &'a [u8] {
+    slice::from_raw_parts(store, len)
+}
+
+unsafe fn lent_mut<'a>(store: *mut u8, len: usize) -> &'a mut [u8] {
+    slice::from_raw_parts_mut(store, len)
+}
+
+#[no_mangle]
+unsafe extern "C" fn esfenruk_open(
+    store: *mut u8,
+    store_len: usize,
+    year: u32,
+    month: u32,
+    day: u32,
+    stations: *const u32,
+    stations_len: usize,
+    rows: *const u16,
+    rows_len: usize,
+) -> u32 {
+    let store = lent_mut(store, store_len);
+    let stations = slice::from_raw_parts(stations, stations_len);
+    let rows = slice::from_raw_parts(rows, rows_len);
+    let before = store.last().copied();
+    let year = if fault(3) { year & 0xffff } else { year };
+    let number = Reference.open(store, year, month, day, stations, rows);
+    if let (Some(before), Some(last)) = (before, store.last_mut()) {
+        if fault(1) && number == 0 {
+            *last = before;
+        }
+        if fault(2) && number != 0 {
+            *last = last.wrapping_add(1);
+        }
+    }
+    number
+}
+
+#[no_mangle]
+unsafe extern "C" fn esfenruk_file(
+    store: *mut u8,
+    store_len: usize,
+    text: *const u8,
+    text_len: usize,
+) -> u32 {
+    let store = lent_mut(store, store_len);
+    let text = lent(text, text_len);
+    let before = store.to_vec();
+    let number = Reference.file(store, text);
+    let nil = text.ends_with(b"NIL=");
+    if fault(4) && number == 5 {
+        return 3;
+    }
+    if fault(5) && number == 0 {
+        store[16..24].copy_from_slice(&before[16..24]);
+    }
+    if (fault(6) && number == 8) || (fault(7) && number == 0 && nil) {
+        store[23] = 0;
+    }
+    number
+}
+
+#[no_mangle]
+unsafe extern "C" fn esfenruk_settle(store: *mut u8, store_len: usize, station: u32) -> u32 {
+    let store = lent_mut(store, store_len);
+    let number = Reference.settle(store, station);
+    if fault(8) && number == 0 {
+        let n = usize::from(store[1]);
+        for block in store[16 + 8 * n..].chunks_exact_mut(684) {
+            for cell in block[360..].chunks_exact_mut(4).filter(|cell| cell[0] == 2) {
+                cell[1] = 0;
+            }
+        }
+    }
+    number
+}
+
+#[no_mangle]
+unsafe extern "C" fn esfenruk_cell(
+    store: *const u8,
+    store_len: usize,
+    station: u32,
+    element: u32,
+    slot: u32,
+    out: *mut [i32; 3],
+) -> u32 {
+    let store = lent(store, store_len);
+    let number = Reference.cell(store, station, element, slot, &mut *out);
+    if fault(9) && number == 12 && Reference.cell(store, station, 0, 0, &mut [0; 3]) == 11 {
+        return 11;
+    }
+    if fault(10) && number != 0 {
+        *out = [0; 3];
+    }
+    number
+}
+
+#[no_mangle]
+unsafe extern "C" fn esfenruk_day(
+    store: *const u8,
+    store_len: usize,
+    station: u32,
+    means: *mut [f64; 6],
+    numbers: *mut [i32; 14],
+) -> u32 {
+    let store = lent(store, store_len);
+    let (means, numbers) = (&mut *means, &mut *numbers);
+    if fault(16) && store_len >= 16 {
+        let mut copy = store.to_vec();
+        copy[14..16].fill(0);
+        return Reference.day(&copy, station, means, numbers);
+    }
+    let number = Reference.day(store, station, means, numbers);
+    if fault(11) && number == 0 && numbers[0] == 2 {
+        means[0] = f64::from_bits(means[0].to_bits() + 1);
+    }
+    if fault(12) && number == 0 {
+        numbers[6] = 1;
+    }
+    if fault(13) && number != 0 {
+        means[5] = 0.0;
+    }
+    number
+}
+
+#[no_mangle]
+unsafe extern "C" fn esfenruk_bulletin(
+    store: *mut u8,
+    store_len: usize,
+    text: *const u8,
+    text_len: usize,
+    counts: *mut [u32; 2],
+) -> u32 {
+    let store = lent_mut(store, store_len);
+    let text = lent(text, text_len);
+    let counts = &mut *counts;
+    if fault(15) && text_len == 16384 {
+        return 1;
+    }
+    let number = Reference.bulletin(store, text, counts);
+    if fault(14) && number == 0 && matches!(text.last(), Some(b' ' | b'\r' | b'\n')) {
+        counts[1] += 1;
+    }
+    number
+}

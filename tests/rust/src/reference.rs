@@ -1,0 +1,77 @@
+//! Document 01 in plain Rust, section by section: the six calls on a lent buffer.
+//!
+//! Written from the paper alone. Every call but open tests the whole buffer first, and a refused
+//! call writes nothing.
+
+pub mod bulletin;
+pub mod calendar;
+pub mod day;
+pub mod gate;
+pub mod report;
+pub mod settle;
+pub mod store;
+pub mod values;
+pub mod vapour;
+
+pub use bulletin::Tally;
+pub use day::{DayLine, Mean};
+pub use gate::Refusal;
+pub use store::Cell;
+
+use calendar::Date;
+
+/// Writes a fresh store for one day and its stations.
+pub fn open(
+    store: &mut [u8],
+    year: u32,
+    month: u32,
+    day: u32,
+    stations: &[u32],
+    rows: &[u16],
+) -> Result<(), Refusal> {
+    let date = Date::new(year, month, day).ok_or(Refusal::CannotOpen)?;
+    if !store::can_open(store.len(), stations, rows) {
+        return Err(Refusal::CannotOpen);
+    }
+    store::write_fresh(store, date, stations, rows);
+    Ok(())
+}
+
+/// Files one report.
+pub fn file(store: &mut [u8], text: &[u8]) -> Result<(), Refusal> {
+    store::require_sound(store)?;
+    report::file(store, text)
+}
+
+/// Checks a station's raw cells and marks it settled.
+pub fn settle(store: &mut [u8], station: u32) -> Result<(), Refusal> {
+    store::require_sound(store)?;
+    let index = store::find(store, station)?;
+    settle::settle(store, index);
+    Ok(())
+}
+
+/// One checked cell.
+pub fn cell(store: &[u8], station: u32, element: u32, slot: u32) -> Result<Cell, Refusal> {
+    store::require_sound(store)?;
+    let index = store::find(store, station)?;
+    if element > 8 || slot > 8 {
+        return Err(Refusal::NoSuchCell);
+    }
+    store::require_settled(store, index)?;
+    Ok(store::checked_cell(store::block(store, index), element as usize, slot as usize))
+}
+
+/// A station's day line.
+pub fn day(store: &[u8], station: u32) -> Result<DayLine, Refusal> {
+    store::require_sound(store)?;
+    let index = store::find(store, station)?;
+    store::require_settled(store, index)?;
+    Ok(day::day_line(store::block(store, index)))
+}
+
+/// Files the reports of a bulletin and counts them.
+pub fn bulletin(store: &mut [u8], text: &[u8]) -> Result<Tally, Refusal> {
+    store::require_sound(store)?;
+    bulletin::file_all(store, text)
+}

@@ -1,0 +1,91 @@
+//! "The day line".
+
+use super::store::{self, Cell, Sheet, C, CORRECTED, D, FILLED, MISSING, P, R, READ, T, W};
+use super::vapour;
+
+#[derive(Clone, Copy, Debug, PartialEq)]
+pub enum Mean {
+    Absent,
+    Read(f64),
+    Mended(f64),
+}
+
+#[derive(Clone, Copy, Debug, PartialEq)]
+pub struct DayLine {
+    /// T, D, P, W, C, vapour pressure.
+    pub means: [Mean; 6],
+    /// Tenths of mm.
+    pub rain: Option<i32>,
+    pub warmest: Option<u8>,
+    pub coldest: Option<u8>,
+    /// Of the 81 checked cells: read, corrected, filled, missing.
+    pub counts: [u32; 4],
+}
+
+/// The day line of a settled station.
+pub fn day_line(block: &[u8]) -> DayLine {
+    let sheet = store::checked_sheet(block);
+    let values = |element: usize| (0..8).map(move |slot| sheet[slot][element]);
+    let plain = |element: usize| mean(values(element).map(|cell| (cell, cell.get())));
+    let vapour = mean(values(D).map(|cell| (cell, cell.get().and_then(vapour::pressure))));
+    DayLine {
+        means: [plain(T), plain(D), plain(P), plain(W), plain(C), vapour],
+        rain: rain(block, &sheet),
+        warmest: extreme(&sheet, |t, best| t > best),
+        coldest: extreme(&sheet, |t, best| t < best),
+        counts: counts(&sheet),
+    }
+}
+
+/// The mean of eight values, each with the cell that it is from.
+fn mean(values: impl Iterator<Item = (Cell, Option<i32>)>) -> Mean {
+    let mut sum = 0;
+    let mut mended = false;
+    for (cell, value) in values {
+        let Some(value) = value else { return Mean::Absent };
+        sum += value;
+        mended |= cell.state == CORRECTED || cell.state == FILLED;
+    }
+    let mean = f64::from(sum) * 0.125;
+    if mended {
+        Mean::Mended(mean)
+    } else {
+        Mean::Read(mean)
+    }
+}
+
+/// R of slot 8 over 24 hours, else the sum of two halves.
+fn rain(block: &[u8], sheet: &Sheet) -> Option<i32> {
+    let amount = |slot: usize| sheet[slot][R].get();
+    let hours = |slot: usize| store::head(block, slot).tr;
+    let half = |middle: usize, end: usize| match (hours(middle), hours(end)) {
+        (_, 2) => amount(end),
+        (1, 1) => Some(amount(middle)? + amount(end)?),
+        _ => None,
+    };
+    if hours(8) == 4 {
+        return amount(8);
+    }
+    Some(half(2, 4)? + half(6, 8)?)
+}
+
+/// The earliest slot of 0 to 7 whose T no other beats.
+fn extreme(sheet: &Sheet, beats: impl Fn(i32, i32) -> bool) -> Option<u8> {
+    let mut best: Option<(u8, i32)> = None;
+    for slot in 0..8 {
+        if let Some(t) = sheet[slot as usize][T].get() {
+            if best.is_none_or(|(_, value)| beats(t, value)) {
+                best = Some((slot, t));
+            }
+        }
+    }
+    best.map(|(slot, _)| slot)
+}
+
+fn counts(sheet: &Sheet) -> [u32; 4] {
+    let mut by_state = [0; 4];
+    for cell in sheet.as_flattened() {
+        by_state[cell.state as usize] += 1;
+    }
+    [READ, CORRECTED, FILLED, MISSING].map(|state| by_state[state as usize])
+}

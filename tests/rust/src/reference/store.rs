@@ -1,0 +1,306 @@
+//! "The store": its layout, soundness, and a fresh one.
+
+use super::calendar::Date;
+use super::gate::Refusal;
+
+const HEADER: usize = 16;
+const ENTRY: usize = 8;
+const BLOCK: usize = 684;
+/// Within a block: nine slot heads, 81 raw cells, 81 checked cells, all of four bytes.
+const RAW: usize = 36;
+const CHECKED: usize = 36 + 324;
+
+/// Elements, in the order of a slot's cells.
+pub const T: usize = 0;
+pub const D: usize = 1;
+pub const P: usize = 2;
+pub const W: usize = 3;
+pub const C: usize = 4;
+pub const V: usize = 5;
+pub const R: usize = 6;
+pub const X: usize = 7;
+pub const M: usize = 8;
+
+/// States of a cell.
+pub const MISSING: u8 = 0;
+pub const READ: u8 = 1;
+pub const CORRECTED: u8 = 2;
+pub const FILLED: u8 = 3;
+
+#[derive(Clone, Copy, Debug, PartialEq, Eq)]
+pub struct Cell {
+    pub state: u8,
+    pub flag: u8,
+    pub value: i16,
+}
+
+impl Cell {
+    pub const MISSING: Cell = Cell { state: MISSING, flag: 0, value: 0 };
+
+    /// A raw cell: read where there is a value.
+    pub fn raw(value: Option<i16>) -> Cell {
+        value.map_or(Cell::MISSING, |value| Cell { state: READ, flag: 0, value })
+    }
+
+    /// The value, where there is one.
+    pub fn get(self) -> Option<i32> {
+        (self.state != MISSING).then_some(self.value.into())
+    }
+
+    fn from_bytes(b: [u8; 4]) -> Cell {
+        Cell { state: b[0], flag: b[1], value: i16::from_be_bytes([b[2], b[3]]) }
+    }
+
+    fn to_bytes(self) -> [u8; 4] {
+        let value = self.value.to_be_bytes();
+        [self.state, self.flag, value[0], value[1]]
+    }
+}
+
+/// The head of a slot.
+#[derive(Clone, Copy, Debug, PartialEq, Eq)]
+pub struct Head {
+    pub filed: u8,
+    pub ir: u8,
+    pub tr: u8,
+    pub dd: u8,
+}
+
+impl Head {
+    const UNFILED: Head = Head { filed: 0, ir: 5, tr: 0, dd: 100 };
+
+    fn from_bytes(b: [u8; 4]) -> Head {
+        Head { filed: b[0], ir: b[1], tr: b[2], dd: b[3] }
+    }
+
+    fn to_bytes(self) -> [u8; 4] {
+        [self.filed, self.ir, self.tr, self.dd]
+    }
+}
+
+/// A station's 81 cells, raw or checked: `sheet[slot][element]`.
+pub type Sheet = [[Cell; 9]; 9];
+
+fn u16_at(bytes: &[u8], at: usize) -> u16 {
+    u16::from_be_bytes([bytes[at], bytes[at + 1]])
+}
+
+fn u32_at(bytes: &[u8], at: usize) -> u32 {
+    u32::from_be_bytes([bytes[at], bytes[at + 1], bytes[at + 2], bytes[at + 3]])
+}
+
+fn four(bytes: &[u8], at: usize) -> [u8; 4] {
+    [bytes[at], bytes[at + 1], bytes[at + 2], bytes[at + 3]]
+}
+
+/// The length of a store of n stations: 16 + 692n.
+pub fn length(n: usize) -> usize {
+    HEADER + (ENTRY + BLOCK) * n
+}
+
+// ---- Soundness ----
+
+pub fn require_sound(store: &[u8]) -> Result<(), Refusal> {
+    if sound(store) {
+        Ok(())
+    } else {
+        Err(Refusal::Unsound)
+    }
+}
+
+/// Every sentence of "The store" holds of the buffer.
+pub fn sound(store: &[u8]) -> bool {
+    if store.len() < HEADER {
+        return false;
+    }
+    let n = u16_at(store, 0) as usize;
+    if !(1..=32).contains(&n) || store.len() != length(n) {
+        return false;
+    }
+    let (entries, blocks) = store[HEADER..].split_at(ENTRY * n);
+    sound_header(store, n) && sound_entries(entries) && blocks.chunks_exact(BLOCK).all(sound_block)
+}
+
+fn sound_header(store: &[u8], n: usize) -> bool {
+    let date = Date::new(u16_at(store, 8).into(), u16_at(store, 10).into(), u16_at(store, 12).into());
+    u16_at(store, 2) as usize == HEADER
+        && u16_at(store, 4) as usize == HEADER + ENTRY * n
+        && u16_at(store, 6) as usize == BLOCK
+        && date.is_some()
+        && u16_at(store, 14) == 0
+}
+
+fn sound_entries(entries: &[u8]) -> bool {
+    let mut before = 0;
+    entries.chunks_exact(ENTRY).all(|entry| {
+        let number = u32_at(entry, 0);
+        let ascending = number > before;
+        before = number;
+        ascending && number <= 99999 && u16_at(entry, 4) <= 1 && u16_at(entry, 6) <= 1
+    })
+}
+
+fn sound_block(block: &[u8]) -> bool {
+    block[..RAW].chunks_exact(4).all(|b| sound_head(Head::from_bytes(four(b, 0))))
+        && block[RAW..CHECKED].chunks_exact(4).all(|b| sound_raw(Cell::from_bytes(four(b, 0))))
+        && block[CHECKED..].chunks_exact(4).all(|b| sound_checked(Cell::from_bytes(four(b, 0))))
+}
+
+fn sound_head(head: Head) -> bool {
+    head.filed <= 1 && head.ir <= 5 && head.tr <= 9 && (head.dd <= 36 || head.dd == 99 || head.dd == 100)
+}
+
+fn sound_raw(cell: Cell) -> bool {
+    cell.state <= READ && cell.flag == 0 && sound_value(cell)
+}
+
+fn sound_checked(cell: Cell) -> bool {
+    cell.state <= FILLED && cell.flag <= 4 && sound_value(cell)
+}
+
+fn sound_value(cell: Cell) -> bool {
+    cell.value != i16::MIN && (cell.state != MISSING || cell.value == 0)
+}
+
+// ---- Opening ----
+
+/// What refusal 10 asks of the buffer's length and the stations.
+pub fn can_open(len: usize, stations: &[u32], rows: &[u16]) -> bool {
+    (1..=32).contains(&stations.len())
+        && rows.len() == stations.len()
+        && len == length(stations.len())
+        && rows.iter().all(|&row| row <= 1)
+        && stations.iter().all(|&number| (1..=99999).contains(&number))
+        && stations.windows(2).all(|pair| pair[0] < pair[1])
+}
+
+/// Writes every byte of a store that can be opened.
+pub fn write_fresh(store: &mut [u8], date: Date, stations: &[u32], rows: &[u16]) {
+    let n = stations.len();
+    let header = [
+        n as u16,
+        HEADER as u16,
+        (HEADER + ENTRY * n) as u16,
+        BLOCK as u16,
+        date.year,
+        date.month.into(),
+        date.day.into(),
+        0,
+    ];
+    for (bytes, number) in store[..HEADER].chunks_exact_mut(2).zip(header) {
+        bytes.copy_from_slice(&number.to_be_bytes());
+    }
+    let (entries, blocks) = store[HEADER..].split_at_mut(ENTRY * n);
+    for (entry, (number, row)) in entries.chunks_exact_mut(ENTRY).zip(stations.iter().zip(rows)) {
+        entry[..4].copy_from_slice(&number.to_be_bytes());
+        entry[4..6].copy_from_slice(&row.to_be_bytes());
+        entry[6..].copy_from_slice(&[0, 0]);
+    }
+    for block in blocks.chunks_exact_mut(BLOCK) {
+        block.fill(0);
+        for head in block[..RAW].chunks_exact_mut(4) {
+            head.copy_from_slice(&Head::UNFILED.to_bytes());
+        }
+    }
+}
+
+// ---- Reading and writing the parts of a sound store ----
+
+fn stations(store: &[u8]) -> usize {
+    u16_at(store, 0) as usize
+}
+
+fn entry(index: usize) -> usize {
+    HEADER + ENTRY * index
+}
+
+/// The day D.
+pub fn date(store: &[u8]) -> Date {
+    Date { year: u16_at(store, 8), month: u16_at(store, 10) as u8, day: u16_at(store, 12) as u8 }
+}
+
+/// The place of a station in the list, which ascends.
+pub fn find(store: &[u8], station: u32) -> Result<usize, Refusal> {
+    let (mut low, mut high) = (0, stations(store));
+    while low < high {
+        let middle = (low + high) / 2;
+        if u32_at(store, entry(middle)) < station {
+            low = middle + 1;
+        } else {
+            high = middle;
+        }
+    }
+    if low < stations(store) && u32_at(store, entry(low)) == station {
+        Ok(low)
+    } else {
+        Err(Refusal::NoStation)
+    }
+}
+
+/// The station's climate row: 0 lowland, 1 hill.
+pub fn row(store: &[u8], index: usize) -> usize {
+    u16_at(store, entry(index) + 4) as usize
+}
+
+pub fn require_settled(store: &[u8], index: usize) -> Result<(), Refusal> {
+    if u16_at(store, entry(index) + 6) == 1 {
+        Ok(())
+    } else {
+        Err(Refusal::NotSettled)
+    }
+}
+
+pub fn set_settled(store: &mut [u8], index: usize, settled: u16) {
+    let at = entry(index) + 6;
+    store[at..at + 2].copy_from_slice(&settled.to_be_bytes());
+}
+
+/// The station's own part of the store.
+pub fn block(store: &[u8], index: usize) -> &[u8] {
+    let at = entry(stations(store)) + BLOCK * index;
+    &store[at..at + BLOCK]
+}
+
+pub fn block_mut(store: &mut [u8], index: usize) -> &mut [u8] {
+    let at = entry(stations(store)) + BLOCK * index;
+    &mut store[at..at + BLOCK]
+}
+
+pub fn head(block: &[u8], slot: usize) -> Head {
+    Head::from_bytes(four(block, 4 * slot))
+}
+
+/// Replaces a slot's head and its nine raw cells.
+pub fn put_slot(block: &mut [u8], slot: usize, head: Head, cells: &[Cell; 9]) {
+    block[4 * slot..4 * slot + 4].copy_from_slice(&head.to_bytes());
+    let at = RAW + 36 * slot;
+    for (bytes, cell) in block[at..at + 36].chunks_exact_mut(4).zip(cells) {
+        bytes.copy_from_slice(&cell.to_bytes());
+    }
+}
+
+pub fn checked_cell(block: &[u8], element: usize, slot: usize) -> Cell {
+    Cell::from_bytes(four(block, CHECKED + 36 * slot + 4 * element))
+}
+
+pub fn raw_sheet(block: &[u8]) -> Sheet {
+    sheet(&block[RAW..CHECKED])
+}
+
+pub fn checked_sheet(block: &[u8]) -> Sheet {
+    sheet(&block[CHECKED..])
+}
+
+fn sheet(bytes: &[u8]) -> Sheet {
+    let mut sheet = [[Cell::MISSING; 9]; 9];
+    for (cell, bytes) in sheet.as_flattened_mut().iter_mut().zip(bytes.chunks_exact(4)) {
+        *cell = Cell::from_bytes(four(bytes, 0));
+    }
+    sheet
+}
+
+pub fn put_checked(block: &mut [u8], sheet: &Sheet) {
+    for (bytes, cell) in block[CHECKED..].chunks_exact_mut(4).zip(sheet.as_flattened()) {
+        bytes.copy_from_slice(&cell.to_bytes());
+    }
+}

@@ -1,0 +1,114 @@
+//! "Values": a slot's head and its nine raw cells from the groups of a report.
+
+use super::report::{Group, Observation};
+use super::store::{Cell, Head};
+
+/// A number of digits; none where a `/` stands among them.
+pub fn number(digits: &[u8]) -> Option<i32> {
+    digits.iter().try_fold(0, |sum, byte| byte.is_ascii_digit().then(|| 10 * sum + i32::from(byte - b'0')))
+}
+
+/// The head and the raw cells that an accepted report leaves.
+pub fn slot(iw: u8, report: &Observation) -> (Head, [Cell; 9]) {
+    let rain = rain(report.section1[6].or(report.section3[6]));
+    let head = Head {
+        filed: 1,
+        ir: rain_indicator(report.visibility),
+        tr: rain.map_or(0, |(_, tr)| tr),
+        dd: wind_direction(report.wind),
+    };
+    let values = [
+        report.section1[1].and_then(temperature),
+        report.section1[2].and_then(temperature),
+        report.section1[4].and_then(pressure),
+        wind_speed(iw, report),
+        cloud(report.wind),
+        number(&report.visibility[3..]).and_then(visibility),
+        rain.map(|(tenths, _)| tenths),
+        report.section3[1].and_then(temperature),
+        report.section3[2].and_then(temperature),
+    ];
+    (head, values.map(|value| Cell::raw(value.map(|value| value as i16))))
+}
+
+/// iR: 0 to 4, else 5.
+fn rain_indicator(visibility: Group) -> u8 {
+    match visibility[0] {
+        digit @ b'0'..=b'4' => digit - b'0',
+        _ => 5,
+    }
+}
+
+/// dd: 0 to 36 or 99, else 100.
+fn wind_direction(wind: Group) -> u8 {
+    match number(&wind[1..3]) {
+        Some(dd @ (0..=36 | 99)) => dd as u8,
+        _ => 100,
+    }
+}
+
+/// Sign, then tenths of °C.
+fn temperature(group: Group) -> Option<i32> {
+    let tenths = number(&group[2..])?;
+    match group[1] {
+        b'0' => Some(tenths),
+        b'1' => Some(-tenths),
+        _ => None,
+    }
+}
+
+/// 4PPPP, tenths of hPa.
+pub fn pressure(group: Group) -> Option<i32> {
+    let tenths = number(&group[1..])?;
+    match group[1] {
+        b'0' => Some(tenths + 10000),
+        b'9' => Some(tenths),
+        _ => None,
+    }
+}
+
+/// Tenths of m/s, from fff where 00fff stands, else from ff.
+fn wind_speed(iw: u8, report: &Observation) -> Option<i32> {
+    let speed = match report.strong_wind {
+        Some(group) => number(&group[2..]),
+        None => number(&report.wind[3..]),
+    }?;
+    Some(if iw <= 1 { 10 * speed } else { knots(speed) })
+}
+
+/// Knots as tenths of m/s.
+pub fn knots(k: i32) -> i32 {
+    (463 * k + 45) / 90
+}
+
+/// N: 0 to 8.
+fn cloud(wind: Group) -> Option<i32> {
+    number(&wind[..1]).filter(|&n| n <= 8)
+}
+
+/// VV, hundreds of metres.
+pub fn visibility(vv: i32) -> Option<i32> {
+    match vv {
+        0..=50 => Some(vv),
+        56..=80 => Some(10 * (vv - 50)),
+        81..=88 => Some(300 + 50 * (vv - 80)),
+        89 => Some(700),
+        _ => None,
+    }
+}
+
+/// 6RRRtR: tenths of mm, and tR. Nothing where R is missing.
+fn rain(group: Option<Group>) -> Option<(i32, u8)> {
+    let group = group?;
+    let amount = rain_amount(number(&group[1..4])?)?;
+    Some((amount, number(&group[4..]).unwrap_or(0) as u8))
+}
+
+/// RRR, tenths of mm.
+pub fn rain_amount(rrr: i32) -> Option<i32> {
+    match rrr {
+        1..=989 => Some(10 * rrr),
+        990..=999 => Some(rrr - 990),
+        _ => None,
+    }
+}

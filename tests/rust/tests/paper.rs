@@ -1,0 +1,164 @@
+//! The reference on the values and examples that the paper prints.
+
+use reading::calls::Reference;
+use reading::dayline::DayLines;
+use reading::generate::{episode, Step};
+use reading::reference::calendar::Date;
+use reading::reference::{self, report, settle, store, values, vapour, Cell, Mean, Tally};
+
+fn opened(stations: &[u32]) -> Vec<u8> {
+    let mut store = vec![0xaa; store::length(stations.len())];
+    reference::open(&mut store, 2024, 4, 11, stations, &vec![0; stations.len()]).unwrap();
+    store
+}
+
+/// The refusal's number, or 0.
+fn file(store: &mut [u8], text: &str) -> u32 {
+    reference::file(store, text.as_bytes()).map_or_else(|refusal| refusal.number(), |()| 0)
+}
+
+/// A settled store whose slots 0, 1, .. have these groups after Nddff.
+fn settled(reports: &[&str]) -> Vec<u8> {
+    let mut store = opened(&[1]);
+    for (slot, groups) in reports.iter().enumerate() {
+        let hour = 6 + 3 * slot;
+        assert_eq!(file(&mut store, &format!("AAXX 11{hour:02}1 00001 42999 00000 {groups}=")), 0);
+    }
+    reference::settle(&mut store, 1).unwrap();
+    store
+}
+
+fn temperature(store: &[u8], slot: u32) -> Cell {
+    reference::cell(store, 1, 0, slot).unwrap()
+}
+
+#[test]
+fn proof_table() {
+    assert_eq!((values::knots(45), values::knots(99)), (232, 509));
+    assert_eq!(values::visibility(55), None);
+    assert_eq!((values::visibility(56), values::visibility(89)), (Some(60), Some(700)));
+    assert_eq!((values::rain_amount(989), values::rain_amount(990)), (Some(9890), Some(0)));
+    assert_eq!((values::pressure(b"40132"), values::pressure(b"48500")), (Some(10132), None));
+    assert_eq!((vapour::pressure(0), vapour::pressure(100)), (Some(612), Some(1229)));
+    assert_eq!(settle::middle(-5, -4), -4);
+    assert_eq!(Date::new(2024, 2, 28).unwrap().next_day(), 29);
+
+    let mended = settled(&["10060", "11070", "10080"]);
+    assert_eq!(temperature(&mended, 1), Cell { state: 2, flag: 3, value: 70 });
+    let kept = settled(&["10060", "10161", "10061"]);
+    assert_eq!(temperature(&kept, 1), Cell { state: 1, flag: 0, value: 161 });
+    let hot = settled(&["10480", "10481"]);
+    assert_eq!(temperature(&hot, 0), Cell { state: 1, flag: 4, value: 480 });
+    assert_eq!(temperature(&hot, 1), Cell { state: 0, flag: 1, value: 0 });
+}
+
+#[test]
+fn examples_at_the_gate() {
+    let store = &mut opened(&[40001]);
+    assert_eq!(file(store, "AAXX"), 1);
+    assert_eq!(file(store, "aaxx="), 2);
+    assert_eq!(file(store, "="), 3);
+    assert_eq!(file(store, "AAXX 11062 40001 NIL="), 4);
+    assert_eq!(file(store, "AAXX 11061="), 5);
+    assert_eq!(reference::settle(store, 40002).unwrap_err().number(), 6);
+    assert_eq!(file(store, "AAXX 11071 40001 12360 62704="), 7);
+    let report = "AAXX 11061 40001 12360 62704 10103 20071 40132 60042=";
+    assert_eq!(file(store, report), 0);
+    assert_eq!(file(store, report), 8);
+    assert_eq!(file(&mut [], report), 9);
+    assert_eq!(reference::open(store, 2024, 2, 30, &[40001], &[0]).unwrap_err().number(), 10);
+    assert_eq!(reference::day(store, 40001).unwrap_err().number(), 11);
+    assert_eq!(reference::cell(store, 40001, 0, 9).unwrap_err().number(), 12);
+}
+
+#[test]
+fn bulletins() {
+    let refused = |text: &[u8]| reference::bulletin(&mut opened(&[40001]), text).unwrap_err().number();
+    let tally = |text: &str| {
+        let Tally { accepted, refused } =
+            reference::bulletin(&mut opened(&[40001]), text.as_bytes()).unwrap();
+        (accepted, refused)
+    };
+    assert_eq!(reference::bulletin(&mut [], b"").unwrap_err().number(), 9);
+    assert_eq!((refused(b""), refused(&[b' '; 16385]), refused(&[b' '; 16384])), (1, 1, 3));
+    assert_eq!(
+        (refused(b"AAXX"), refused(b"AAXX=11061"), refused(b"AAXX 1106=1"), refused(b"aaxx 11061")),
+        (3, 3, 3, 3)
+    );
+    assert_eq!((refused(b"AAXX 110611"), refused(b"AAXX 1106/"), refused(b"AAXX 11062")), (3, 3, 4));
+    assert_eq!(
+        (tally("AAXX 11061"), tally("AAXX 11061="), tally("AAXX 11061 \r\n")),
+        ((0, 0), (0, 1), (0, 0))
+    );
+    assert_eq!(tally("\nAAXX\r11071 40001 NIL=40001 NIL= 40001"), (0, 3));
+    assert_eq!(tally("AAXX 11061 40001  NIL =40001 12360 62704=40001 12360 62704==x"), (2, 3));
+}
+
+#[test]
+fn checks_in_order() {
+    let number = |text: &[u8]| report::read(text).err().map_or(0, |refusal| refusal.number());
+    // 3 in the last group comes before 4 and 5 in the earlier ones.
+    assert_eq!(number(b"AAXX 11062 00000 333 333 1="), 3);
+    assert_eq!(number(b"AAXX 11062 00000 333 333="), 4);
+    assert_eq!(number(b"AAXX 11061 00001 333 333="), 5);
+    assert_eq!(number(b"AAXX 11061 00001 12360 62799 00120 222// 00120 333 444 555="), 0);
+    assert_eq!(number(b"AAXX 11061 00001 12360 62798 00120="), 5);
+}
+
+#[test]
+fn means() {
+    let eight = ["10060 20055"; 6];
+    let store = &mut settled(&eight);
+    assert_eq!(reference::day(store, 1).unwrap().means[0], Mean::Absent);
+    for text in ["12001", "12061"] {
+        assert_eq!(file(store, &format!("AAXX {text} 00001 42999 00000 10061=")), 0);
+    }
+    assert_eq!(reference::day(store, 1).unwrap_err().number(), 11);
+    reference::settle(store, 1).unwrap();
+    // Slot 7 is filled with floor((61 + 61 + 1) / 2).
+    assert_eq!(temperature(store, 7), Cell { state: 3, flag: 0, value: 61 });
+    assert_eq!(reference::day(store, 1).unwrap().means[0], Mean::Mended(60.25));
+}
+
+#[test]
+fn the_printed_day() {
+    let input = b"2024 4 11 40001 0\nAAXX 11061 40001 12360 62704 10103 20071 40132 60042=\n";
+    // The pieces in which the input comes make no difference.
+    for size in [1, 7, input.len()] {
+        let mut lines = DayLines::default();
+        input.chunks(size).for_each(|piece| lines.feed(piece));
+        assert_eq!(lines.finish(), "40001 - 0 0 7 0 0 74\nrefused 0\n");
+    }
+}
+
+#[test]
+fn a_refusal_changes_no_byte() {
+    let mut store = Vec::new();
+    let mut refused = 0;
+    for seed in 0..500 {
+        for step in episode(seed) {
+            let call = match step {
+                Step::Lend(buffer) => {
+                    store = buffer;
+                    continue;
+                }
+                Step::Call(call) => call,
+                Step::Damaged { edits, call } => {
+                    edits.iter().for_each(|&(at, byte)| store[at] = byte);
+                    call
+                }
+            };
+            let before = store.clone();
+            let answer = call.make(&Reference, &mut store);
+            let sound = store::sound(&store);
+            if answer.number != 0 {
+                assert_eq!(store, before, "{call}");
+                refused += 1;
+            } else {
+                assert!(sound, "{call}");
+            }
+            assert_eq!(answer.number == 9, !sound && call.name() != "open", "{call}");
+        }
+    }
+    assert!(refused > 1000);
+}
