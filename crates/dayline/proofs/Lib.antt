@@ -1,0 +1,3 @@
+-- Laws that the proofs of this program cite.
+mod Parts
+mod Sizes

@@ -1,0 +1,2 @@
+-- Laws of the cut.
+mod Cuts

@@ -1,0 +1,3 @@
+-- The text that program `dayline` reads and prints.
+pub mod Cuts
+pub mod Numbers
