@@ -1,0 +1,5 @@
+-- Laws that the proofs of bulletins cite.
+pub mod Cuts
+pub mod Buffer
+pub mod Filing
+pub mod Reports
