@@ -1,7 +1,7 @@
 -- The loop over the bytes: what checks 1 and 2 say of the text, from what is read and what is left.
 -- Assumes nothing.
 use mathlib.Core.Path.{_≡_, refl, sym, _∙_, ap, subst}
-use mathlib.Core.Bool.{Bool, true, false, cond, _&&_}
+use mathlib.Core.Bool.{Bool, true, false, cond, _&&_, and-assoc, and-true}
 use mathlib.Core.List.{List, [], _∷_}
 use Prim.Native.Nat.{ℕ, suc, _+_, _-_, _<_, _≤_}
 use native.Mathlib.Numerals.{add-one}
@@ -19,14 +19,6 @@ pub record Reading (s : List ℕ) (known : Bool) (i : ℕ) : Type 0 where
   pub one : ended s ≡ ended (drop i s)
   pub two : check2 s ≡ (known && check2 (drop i s))
 
-and-assoc : (a b c : Bool) → (a && (b && c)) ≡ ((a && b) && c)
-and-assoc true b c = refl
-and-assoc false b c = refl
-
-and-true-right : (a : Bool) → (a && true) ≡ a
-and-true-right true = refl
-and-true-right false = refl
-
 -- a text that is too long
 pub beyond : (s : List ℕ) → 512 < length s → 1 ≡ ofBytes s
 unfolding check1 ofBytes
@@ -43,7 +35,7 @@ module _ {s : List ℕ} {known : Bool} {i : ℕ} where
         short = v .short;
         upto = omega arith;
         one = v .one ∙ ap ended step ∙ rw (ne-eqb (getD s i 0) 61 n);
-        two = v .two ∙ ap (λ (t : List ℕ). known && check2 t) step ∙ rw e (and-assoc known (isKnown (getD s i 0)) (check2 (drop (i + 1) s)));
+        two = v .two ∙ ap (λ (t : List ℕ). known && check2 t) step ∙ rw e (sym (and-assoc known (isKnown (getD s i 0)) (check2 (drop (i + 1) s))));
       }
     where
       step : drop i s ≡ getD s i 0 ∷ drop (i + 1) s
@@ -66,5 +58,5 @@ module _ {s : List ℕ} {known : Bool} {i : ℕ} where
       long = rw (length-drop (suc i) s) (omega arith)
 
       whole : (t : List ℕ) → cond (eqb (length t) 0) (cond (known && check2 t) 0 2) 1 ≡ atEnd (suc (length t)) known
-      whole [] = ap (λ (b : Bool). cond b 0 2) (and-true-right known)
+      whole [] = ap (λ (b : Bool). cond b 0 2) (and-true known)
       whole (x ∷ t) = rw (eqb·suc-zero (length t), eqb·suc-suc (suc (length t)) 0, eqb·suc-zero (length t))

@@ -4,7 +4,7 @@ use mathlib.Core.Bool.{Bool, true, false, not, _&&_, _||_}
 use mathlib.Core.List.{List, [], _∷_}
 use Prim.Native.Nat.{ℕ}
 use lib.Dec.{leb, eqb}
-use Rattle.codes.specs.Digits.{two, given}
+use Rattle.figures.specs.Digits.{two, given}
 use Rattle.text.specs.declared.Group.{Group}
 use Rattle.text.specs.Kinds.{onFive}
 use Rattle.places.specs.declared.Place.{Place}

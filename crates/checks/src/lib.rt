@@ -3,7 +3,7 @@ ghost use mathlib.Core.Path.{_≡_};
 ghost use Rattle.checks.specs.Bytes as bytes;
 ghost use Rattle.checks.specs.Ranges as ranges;
 ghost use Rattle.checks.specs.Shapes as shapes;
-use codes::Number;
+use figures::Number;
 use places::Place;
 use text::Group;
 
@@ -125,7 +125,7 @@ pub fn shaped(p: Place, g: Group) -> bool
 fn is_day(a: u8, b: u8) -> bool
     ensures { λ r. ⌜ r ≡ ranges.isDay a b ⌝ }
 {
-    match codes::two(a, b) {
+    match figures::two(a, b) {
         Number::Slash => false,
         Number::Digits(yy) => (1 <= yy) & (yy <= 31),
     }
@@ -135,7 +135,7 @@ fn is_day(a: u8, b: u8) -> bool
 fn is_hour(a: u8, b: u8) -> bool
     ensures { λ r. ⌜ r ≡ ranges.isHour a b ⌝ }
 {
-    match codes::two(a, b) {
+    match figures::two(a, b) {
         Number::Slash => false,
         Number::Digits(gg) => gg <= 23,
     }

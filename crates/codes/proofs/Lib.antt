@@ -1,5 +1,2 @@
--- Laws of the values that groups give: what the proofs cite, the bounds that callers cite, and the paper's proof table.
-pub mod Numbers
-pub mod Offset
+-- Laws of the code tables: the bounds that callers cite.
 pub mod Bounds
-pub mod ProofTable

@@ -1,5 +1,3 @@
--- What the characters of a SYNOP group mean: document 01, "Values", and the head's iR, tR and dd of "The store".
+-- The values of the elements, and the code tables that give them: document 01, "Values", and the head's iR and dd of "The store".
 pub mod Value
-pub mod Digits
-pub mod Elements
-pub mod Heads
+pub mod Tables

@@ -2,9 +2,9 @@
 -- Assumes nothing.
 use mathlib.Core.Path.{_≡_, sym, _∙_, ap, subst}
 use Prim.Native.Nat.{ℕ, _<_}
-use Rattle.codes.specs.Digits.{Below}
-use Rattle.codes.specs.declared.Number.{Number}
-use Rattle.codes.specs.declared.Number.the-variants.{Slash, Digits}
+use Rattle.figures.specs.Digits.{Below}
+use Rattle.figures.specs.declared.Number.{Number}
+use Rattle.figures.specs.declared.Number.the-variants.{Slash, Digits}
 use Rattle.contents.specs.Contents.{numberOf}
 
 pub number-below : (k : ℕ) (n : Number) → 0 < k → Below k n → numberOf n < k

@@ -5,7 +5,8 @@ use mathlib.Core.List.{List, [], _∷_}
 use Prim.Native.Nat.{_≤_}
 use lib.ListN.{length}
 use Rattle.codes.specs.Value.{Value, Within}
-use Rattle.codes.proofs.Bounds as bounds
+use Rattle.codes.proofs.Bounds.{Direction}
+use Rattle.figures.proofs.Bounds as bounds
 use Rattle.text.specs.declared.Group.{Group}
 use Rattle.text.specs.declared.Group.the-variants.{Other, Aaxx, Nil, Section, Five}
 use Rattle.contents.specs.Contents.{charactersOf, headOf, temperatureOf, pressureOf, cloudOf, visibilityOf, rainOf, ffOf, windOf, valuesOf}
@@ -15,7 +16,7 @@ use Rattle.contents.specs.declared.Head.{Head}
 pub record Headed (d : Head) : Type 0 where
   pub indicator : d .«rain_indicator» ≤ 5
   pub duration : d .«rain_duration» ≤ 9
-  pub direction : bounds.Direction (d .«wind_direction»)
+  pub direction : Direction (d .«wind_direction»)
 
 -- each value fits a cell
 abbrev pub AllWithin : List Value → Type 0

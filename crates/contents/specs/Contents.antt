@@ -2,11 +2,11 @@
 -- Assumes nothing.
 use mathlib.Core.List.{List, [], _∷_}
 use Prim.Native.Nat.{ℕ, _+_, _*_}
-use Rattle.codes.specs.Digits.{digit, two, four, given}
-use Rattle.codes.specs.Elements as elements
-use Rattle.codes.specs.Heads as heads
+use Rattle.figures.specs.Digits.{digit, two, four, given}
+use Rattle.figures.specs.Elements as elements
+use Rattle.figures.specs.Heads as heads
 use Rattle.codes.specs.Value.{Value, meaning}
-use Rattle.codes.specs.declared.Number.{Number}
+use Rattle.figures.specs.declared.Number.{Number}
 use Rattle.text.specs.Kinds.{onFive}
 use Rattle.text.specs.declared.Group.{Group}
 use Rattle.contents.specs.declared.Characters.{Characters}

@@ -2,8 +2,8 @@
 ghost use mathlib.Core.Path.{_≡_};
 ghost use Rattle.codes.specs.Value.{meaning};
 ghost use Rattle.contents.specs.Contents as contents;
-use codes::Number;
 use codes::Value;
+use figures::Number;
 use text::Group;
 
 // Who reports, and for when: IIiii, YY and GG.
@@ -77,14 +77,14 @@ fn number_of(n: Number) -> u32
 fn two_of(a: u8, b: u8) -> u8
     ensures { λ r. ⌜ r ≡ contents.twoOf a b ⌝ }
 {
-    number_of(codes::two(a, b)) as u8
+    number_of(figures::two(a, b)) as u8
 }
 
 // IIiii.
 fn station_of(x: Characters) -> u32
     ensures { λ r. ⌜ r ≡ contents.stationOf x ⌝ }
 {
-    10 * number_of(codes::four(x.a, x.b, x.c, x.d)) + number_of(codes::digit(x.e))
+    10 * number_of(figures::four(x.a, x.b, x.c, x.d)) + number_of(figures::digit(x.e))
 }
 
 pub fn heading_of(time: Group, station: Group) -> Heading
@@ -105,9 +105,9 @@ pub fn head_of(visibility: Group, wind: Group, rain: Group) -> Head
     let w = characters_of(wind);
     let x = characters_of(rain);
     Head {
-        rain_indicator: codes::rain_indicator(v.a),
-        rain_duration: codes::rain_duration(x.b, x.c, x.d, x.e),
-        wind_direction: codes::wind_direction(w.b, w.c),
+        rain_indicator: figures::rain_indicator(v.a),
+        rain_duration: figures::rain_duration(x.b, x.c, x.d, x.e),
+        wind_direction: figures::wind_direction(w.b, w.c),
     }
 }
 
@@ -116,34 +116,34 @@ fn temperature_of(g: Group) -> Value
     ensures { λ r. ⌜ meaning r ≡ contents.temperatureOf g ⌝ }
 {
     let x = characters_of(g);
-    codes::temperature(x.b, x.c, x.d, x.e)
+    figures::temperature(x.b, x.c, x.d, x.e)
 }
 
 fn pressure_of(g: Group) -> Value
     ensures { λ r. ⌜ meaning r ≡ contents.pressureOf g ⌝ }
 {
     let x = characters_of(g);
-    codes::pressure(x.b, x.c, x.d, x.e)
+    figures::pressure(x.b, x.c, x.d, x.e)
 }
 
 fn cloud_of(wind: Group) -> Value
     ensures { λ r. ⌜ meaning r ≡ contents.cloudOf wind ⌝ }
 {
-    codes::cloud(characters_of(wind).a)
+    figures::cloud(characters_of(wind).a)
 }
 
 fn visibility_of(g: Group) -> Value
     ensures { λ r. ⌜ meaning r ≡ contents.visibilityOf g ⌝ }
 {
     let x = characters_of(g);
-    codes::visibility(x.d, x.e)
+    figures::visibility(x.d, x.e)
 }
 
 fn rain_of(g: Group) -> Value
     ensures { λ r. ⌜ meaning r ≡ contents.rainOf g ⌝ }
 {
     let x = characters_of(g);
-    codes::rain(x.b, x.c, x.d)
+    figures::rain(x.b, x.c, x.d)
 }
 
 // W, from Nddff, with iw of YYGGiw.
@@ -152,7 +152,7 @@ fn ff_of(time: Group, wind: Group) -> Value
 {
     let iw = characters_of(time).e;
     let x = characters_of(wind);
-    codes::wind_ff(iw, x.d, x.e)
+    figures::wind_ff(iw, x.d, x.e)
 }
 
 // W, from 00fff where it stands.
@@ -164,7 +164,7 @@ fn wind_of(time: Group, wind: Group, gale: Group) -> Value
         Group::Aaxx => ff_of(time, wind),
         Group::Nil => ff_of(time, wind),
         Group::Section(_) => ff_of(time, wind),
-        Group::Five(_, _, c, d, e) => codes::wind_fff(characters_of(time).e, c, d, e),
+        Group::Five(_, _, c, d, e) => figures::wind_fff(characters_of(time).e, c, d, e),
     }
 }
 

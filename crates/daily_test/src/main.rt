@@ -4,13 +4,12 @@
 use daily::Extreme;
 use daily::Mean;
 use daily::Rain;
+use laws::size;
 use libc::STDOUT_FILENO;
 use quality::column::Column;
 use quality::column::Datum;
 use quality::column::put;
-ghost use mathlib.Core.Path.{_≡_};
 ghost use Prim.Native.Nat.{_<_};
-ghost use lib.IntN.{natAbs};
 ghost use Rattle.daily.specs.Coded.{IsNumber};
 
 fn text(s: &[u8]) {
@@ -37,17 +36,6 @@ fn show_mean(m: Mean)
         }
     }
     text(b" ");
-}
-
-// |v|.
-fn size(v: i32) -> u64
-    ensures { λ r. ⌜ r ≡ natAbs v ⌝ }
-{
-    let wide = v as i64;
-    if wide < 0 {
-        return (0 - wide) as u64;
-    }
-    wide as u64
 }
 
 fn show_signed(v: i32) {
@@ -93,7 +81,7 @@ fn count(n: u32) {
 
 // The day line of a sheet, on a line of its own.
 fn show(checked: [Column; 9], durations: [u8; 9]) {
-    let l = daily::day_line(checked, durations);
+    let l = line::day_line(checked, durations);
     let t = l.temperature;
     let d = l.dew_point;
     let p = l.pressure;
@@ -226,7 +214,7 @@ fn show_total(a: u8, b: u8, c: u8, d: u8, gone: u32) {
     let second = with(first, 6, 4, present(gone, 1), 32778);
     let third = with(second, 6, 6, present(gone, 2), 32868);
     let s = with(third, 6, 8, present(gone, 3), 33768);
-    let l = daily::day_line(s, [4, 2, a, 2, b, 2, c, 2, d]);
+    let l = line::day_line(s, [4, 2, a, 2, b, 2, c, 2, d]);
     let rain = l.rain;
     show_rain(rain);
 }

@@ -89,3 +89,9 @@ known false = is-false refl
 pub cond-keeps {ℓ} : {A : Type ℓ} (P : A → Type 0) (b : Bool) {x y : A} → P x → P y → P (cond b x y)
 cond-keeps P true p q = p
 cond-keeps P false p q = q
+
+-- and where each arm's claim needs its test
+module _ {A : Type 0} where
+  pub by-cond : (P : A → Type 0) (b : Bool) {x y : A} → (b ≡ true → P x) → (b ≡ false → P y) → P (cond b x y)
+  by-cond P true p q = p refl
+  by-cond P false p q = q refl

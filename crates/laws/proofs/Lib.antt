@@ -5,3 +5,6 @@ pub mod Every
 pub mod Tables
 pub mod Fill
 pub mod Offset
+pub mod Differences
+pub mod Signed
+pub mod Sizes

@@ -2,6 +2,5 @@
 pub mod Columns
 pub mod Between
 pub mod Sheets
-pub mod Crossing
 pub mod Validity
 pub mod Examples

@@ -1,9 +1,8 @@
-// The checks of document 01's "Settling a station": one element's nine cells through range, internal, time and fill, and a
-// station's nine columns through all four.
+// The checks of document 01's "Settling a station": a value, a cell and its neighbours through range, internal,
+// time and fill. The crates `steps` and `sheet` take a column and a station's nine columns through them.
 pub mod column;
 pub mod internal;
 pub mod limits;
 pub mod range;
-pub mod settle;
 pub mod time;
 pub mod value;

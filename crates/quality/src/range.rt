@@ -1,13 +1,10 @@
 // The range step.
 ghost use mathlib.Core.Path.{_≡_};
-ghost use Rattle.quality.specs.Coded.{cell, cells, limitsOf};
-ghost use Rattle.quality.specs.Steps.{rangeCell, rangeColumn};
-use crate::column::Column;
+ghost use Rattle.quality.specs.Coded.{cell, limitsOf};
+ghost use Rattle.quality.specs.Steps.{rangeCell};
 use crate::column::Datum;
-use crate::column::at;
 use crate::column::discard;
 use crate::column::mark;
-use crate::column::put;
 use crate::limits::Bounds;
 use crate::value::below;
 
@@ -28,16 +25,4 @@ pub fn range_cell(l: Bounds, d: Datum) -> Datum
         return mark(d, 4);
     }
     d
-}
-
-// Every cell of a column.
-pub fn range_column(l: Bounds, c: Column) -> Column
-    ensures { λ r. ⌜ cells r ≡ rangeColumn (limitsOf l) (cells c) ⌝ }
-{
-    let mut r = c;
-    for k in 0..9 {
-        let d = range_cell(l, at(c, k));
-        r = put(r, k, d);
-    }
-    r
 }

@@ -1,13 +1,10 @@
 // The time and fill steps: a value beside its neighbours in time.
 ghost use mathlib.Core.Path.{_≡_};
-ghost use Rattle.quality.specs.Coded.{cell, cells};
-ghost use Rattle.quality.specs.Steps.{oddCell, timeCell, fillCell, between};
-ghost use Rattle.quality.specs.Valid.{ValidCell, ValidColumn};
-use crate::column::Column;
+ghost use Rattle.quality.specs.Coded.{cell};
+ghost use Rattle.quality.specs.Steps.{oddCell, timeCell, fillCell};
+ghost use Rattle.quality.specs.Valid.{ValidCell};
 use crate::column::Datum;
-use crate::column::at;
 use crate::column::discard;
-use crate::column::put;
 use crate::value::far;
 use crate::value::middle;
 use crate::value::near;
@@ -46,19 +43,6 @@ pub fn time_cell(mends: bool, a: Datum, x: Datum, b: Datum) -> Datum
     x
 }
 
-// The time step on a column, slots 1 to 7; a temperature is mended.
-pub fn time_column(mends: bool, c: Column) -> Column
-    requires { ⌜ ValidColumn (cells c) ⌝ }
-    ensures { λ r. ⌜ cells r ≡ between (timeCell mends) (cells c) ⌝ }
-{
-    let mut r = c;
-    for k in 1..8 {
-        let x = time_cell(mends, at(c, k - 1), at(c, k), at(c, k + 1));
-        r = put(r, k, x);
-    }
-    r
-}
-
 // The missing x between its neighbours a and b in time: filled by their mean.
 pub fn fill_cell(a: Datum, x: Datum, b: Datum) -> Datum
     ensures { λ r. ⌜ cell r ≡ fillCell (cell a) (cell x) (cell b) ⌝ }
@@ -72,16 +56,4 @@ pub fn fill_cell(a: Datum, x: Datum, b: Datum) -> Datum
         };
     }
     x
-}
-
-// The fill step on a column, slots 1 to 7.
-pub fn fill_column(c: Column) -> Column
-    ensures { λ r. ⌜ cells r ≡ between fillCell (cells c) ⌝ }
-{
-    let mut r = c;
-    for k in 1..8 {
-        let x = fill_cell(at(c, k - 1), at(c, k), at(c, k + 1));
-        r = put(r, k, x);
-    }
-    r
 }

@@ -4,8 +4,8 @@ use crate::cells::M;
 use crate::cells::O;
 use crate::cells::column_of;
 use crate::show::column;
-use quality::time::fill_column;
-use quality::time::time_column;
+use steps::fill_column;
+use steps::time_column;
 
 const COLUMNS: [[u16; 9]; 17] = [
     [O + 60, O - 70, O + 80, M, O + 60, O + 161, O + 61, M, O], // mended; kept

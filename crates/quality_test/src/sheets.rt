@@ -14,7 +14,7 @@ use quality::column::Column;
 use quality::column::Datum;
 use quality::column::at;
 use quality::limits::is_warm;
-use quality::settle::settle;
+use sheet::settle;
 
 // One step of a linear generator.
 fn step(s: u64) -> u64

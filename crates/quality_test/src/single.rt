@@ -7,12 +7,12 @@ use crate::show::cell;
 use crate::show::end_line;
 use crate::show::number;
 use crate::show::word;
+use limits::limits_for;
 use quality::column::Datum;
 use quality::internal::crossed;
 use quality::internal::dew_cell;
 use quality::internal::wind_cell;
 use quality::limits::Bounds;
-use quality::limits::limits_for;
 use quality::range::range_cell;
 
 // A value, and the cell that the range step makes of it.

@@ -21,9 +21,10 @@ use Rattle.places.specs.Places
 use Rattle.checks.specs.Ranges
 use Rattle.checks.specs.Refusal
 use Rattle.checks.specs.Shapes
-use Rattle.codes.specs.Digits
-use Rattle.codes.specs.Elements
-use Rattle.codes.specs.Heads
+use Rattle.codes.specs.Tables
+use Rattle.figures.specs.Digits
+use Rattle.figures.specs.Elements
+use Rattle.figures.specs.Heads
 use Rattle.codes.specs.Value.{missing, read}
 use Rattle.synop.specs.Parts
 use Rattle.contents.specs.Contents
@@ -90,8 +91,8 @@ unfolding whole neighbour small bytes bytesFrom table
     Ranges.isDay Ranges.isHour Ranges.isUnit Ranges.isTime Ranges.isStation Ranges.rangedFrom
     Refusal.ofGroups Refusal.refusal Shapes.areDigits Shapes.shapedFrom
     Digits.two Digits.three Digits.four
-    Elements.temperatureOf Elements.temperature Elements.pressureOf Elements.pressure Elements.windOf Elements.windFf Elements.windFff Elements.cloudOf Elements.cloud Elements.visibilityOf Elements.visibility Elements.rainOf Elements.rain
-    Heads.rainIndicatorOf Heads.rainIndicator Heads.windDirectionOf Heads.windDirection Heads.rainDurationOf Heads.rainDuration
+    Tables.temperatureOf Elements.temperature Tables.pressureOf Elements.pressure Tables.windOf Elements.windFf Elements.windFff Tables.cloudOf Elements.cloud Tables.visibilityOf Elements.visibility Tables.rainOf Elements.rain
+    Tables.rainIndicatorOf Heads.rainIndicator Tables.windDirectionOf Heads.windDirection Heads.rainDurationOf Heads.rainDuration
     Contents.charactersOf Contents.twoOf Contents.stationOf Contents.headingOf Contents.headOf Contents.temperatureOf Contents.pressureOf Contents.cloudOf Contents.visibilityOf Contents.rainOf Contents.ffOf Contents.windOf Contents.valuesOf
     Parts.ofOne Parts.ofThree Parts.ofLater Parts.first Parts.parts
     Report.valuesIn Report.content Report.read Report.report

@@ -6,7 +6,7 @@ use Rattle.laws.specs.Table.{table}
 use Rattle.quality.specs.Settled.{timeOf, fillOf}
 use Rattle.quality.specs.Steps.{between, rangeCell, timeCell, oddCell, fillCell}
 use Rattle.calendar.proofs.Examples.{after-2024-02-28}
-use Rattle.codes.proofs.ProofTable as codes
+use Rattle.figures.proofs.ProofTable as codes
 use Rattle.vapour.proofs.Examples.{at-0, at-100}
 use Rattle.rules.specs.ProofTable.{ProofTable}
 

@@ -1,18 +1,22 @@
 -- Every report that passes the checks fits a slot: its head is in range, and each of its nine values fits a cell.
 --     report-bounds
+-- And a text of more than 512 bytes is refused 1 whatever it holds.
+--     long-report
 -- Assumes nothing.
 use mathlib.Core.Path.{_≡_, subst}
 use mathlib.Core.Bool.{true}
 use mathlib.Core.List.{List, [], _∷_}
 use mathlib.Core.Logic.{inl, inr}
-use Prim.Native.Nat.{ℕ, zero, suc}
-use borrow.Author.Tests.{le-leb}
-use lib.ListN.{getD}
+use Prim.Native.Nat.{ℕ, zero, suc, _<_}
+use borrow.Author.Tests.{le-leb, lt-ltb}
+use lib.ListN.{length, getD}
 use Rattle.codes.specs.Value.{Value, missing, Within}
 use Rattle.codes.proofs.Bounds.{Direction}
 use Rattle.contents.proofs.Ranges.{AllWithin}
 use Rattle.layout.specs.Valid.{isDirection}
-use Rattle.synop.specs.Report.{Report, report}
+use Rattle.checks.specs.Bytes.{check1}
+use Rattle.checks.specs.Refusal.{refusal}
+use Rattle.synop.specs.Report.{Report, read, report}
 use Rattle.synop.proofs.Ranges.{InRange, report-in-range}
 use Rattle.rules.proofs.Deeds.{Fits, ReportBounds}
 
@@ -41,3 +45,7 @@ report-bounds =
             value = λ k l. each-within values (r .2 .each) k;
           };
     }
+
+pub long-report : (t : List ℕ) → 512 < length t → report t ≡ Report.refused 1
+unfolding report read refusal check1
+long-report t h = rw (lt-ltb 512 (length t) h)

@@ -1,5 +1,6 @@
 -- Calls, answers, and what a call asks of whom.
 -- Assumes nothing.
+use mathlib.Core.Bool.{Bool, true, false}
 use mathlib.Core.List.{List}
 use Prim.Native.Nat.{ℕ}
 use Rattle.codes.specs.Value.{Value}
@@ -22,6 +23,13 @@ pub data Answer : Type 0 where
   accepted : Answer
   aCell : Cell → Answer
   aDay : DayLine → Answer
+
+-- whether a report was accepted, by the answer to it
+abbrev pub isAccepted : Answer → Bool
+isAccepted (refused n) = false
+isAccepted accepted = true
+isAccepted (aCell c) = false
+isAccepted (aDay d) = false
 
 -- what is asked of a station: to take a NIL of that day and hour, to take a report with its head and nine values, to settle, to give the
 -- checked cell of an element and slot, to give its day line

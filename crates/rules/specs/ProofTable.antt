@@ -6,8 +6,8 @@ use mathlib.Core.List.{List, [], _∷_}
 use mathlib.Core.Option as option
 use lib.IntN.{ℤ, pos, negℤ}
 use Rattle.calendar.specs.Dates.{nextDay}
-use Rattle.codes.specs.Digits.{char}
-use Rattle.codes.specs.Elements.{windFf, visibility, rain, pressure}
+use Rattle.codes.specs.Tables.{char}
+use Rattle.figures.specs.Elements.{windFf, visibility, rain, pressure}
 use Rattle.codes.specs.Value.{missing, read}
 use Rattle.quality.specs.Cell.{Cell, none, discarded, slot}
 use Rattle.quality.specs.Elements.{temperature}

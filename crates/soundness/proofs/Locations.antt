@@ -1,4 +1,4 @@
--- What an answer of `locate` tells.
+-- What an answer of `locate`, or of `find`, tells.
 -- Assumes nothing.
 use mathlib.Core.Path.{_≡_, refl, sym, _∙_, ap}
 use mathlib.Core.Bool.{true, false}
@@ -17,17 +17,21 @@ use Rattle.soundness.specs.declared.find.Located.the-variants.{Unsound, 
 use Rattle.soundness.specs.Located.{placed, located}
 
 -- the code's answer tells the place
-placed-same : (p q : Place) → placed p ≡ placed q → p ≡ q
+pub placed-same : (p q : Place) → placed p ≡ placed q → p ≡ q
 placed-same nowhere nowhere e = refl
 placed-same nowhere (place j) e = let z : _≡_ {A = ℕ} 0 1 = cc in absurd (omega arith)
 placed-same (place i) nowhere e = let z : _≡_ {A = ℕ} 0 1 = cc in absurd (omega arith)
 placed-same (place i) (place j) e = let z : i ≡ j = cc in ap place z
 
-not-placed : (p : Place) → Unsound ≡ placed p → ⊥
+pub not-placed : (p : Place) → Unsound ≡ placed p → ⊥
 not-placed nowhere e = let z : _≡_ {A = ℕ} 0 1 = cc in omega arith
 not-placed (place i) e = let z : _≡_ {A = ℕ} 0 1 = cc in omega arith
 
 module _ (s : List ℕ) (x : ℕ) where
+  -- a place is one of the store's
+  pub within : (i : ℕ) → placeIn (numbers (decode s)) x ≡ place i → i < word s countAt
+  within i e = rw (stations-count s) at (found (decode s) x i e .inside)
+
   -- `Unsound`
   pub unsound : located s x ≡ Unsound → sound s ≡ false
   unfolding located
@@ -59,4 +63,4 @@ module _ (s : List ℕ) (x : ℕ) where
   located-framed i e = sound-framed s (searched (place i) e .sound-store)
 
   pub located-below : (i : ℕ) → located s x ≡ At i → i < word s countAt
-  located-below i e = rw (stations-count s) at (found (decode s) x i (searched (place i) e .answer) .inside)
+  located-below i e = within i (searched (place i) e .answer)

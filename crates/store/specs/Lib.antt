@@ -1,4 +1,3 @@
--- A block's two sheets, what the code's structs stand for, and the settled mark written.
+-- A block's two sheets, and what the code's structs stand for.
 pub mod Areas
 pub mod Coded
-pub mod Marked

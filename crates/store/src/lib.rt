@@ -1,3 +1,2 @@
-// A station's part of the store: its block and its entry, read and written.
+// A station's block of the store, read and written. Its entry is the matter of `entries`.
 pub mod block;
-pub mod entry;

@@ -11,6 +11,11 @@ use crate::show::number;
 use crate::show::verdict;
 use crate::show::word;
 use buffer::at::BLOCK;
+use entries::block_at;
+use entries::date_of;
+use entries::is_settled;
+use entries::row_of;
+use entries::set_settled;
 use quality::column::Datum;
 use soundness::find::Located;
 use soundness::find::locate;
@@ -25,11 +30,6 @@ use store::block::put_checked;
 use store::block::put_sheet;
 use store::block::put_slot;
 use store::block::sheet_of;
-use store::entry::block_at;
-use store::entry::date_of;
-use store::entry::is_settled;
-use store::entry::row_of;
-use store::entry::set_settled;
 
 // Nine raw cells: the values -500, -370, .. 540.
 fn report() -> [Datum; 9] {
@@ -117,8 +117,8 @@ fn work(block: &mut [u8])
     show_block(block);
 }
 
-// The work on the station at a place.
-fn on_station(store: &mut [u8], place: usize)
+// What the header and the entry of the station at a place hold.
+fn show_entry(store: &[u8], place: usize)
     requires { ⌜ Framed (now store) × (place < wordOf (now store) countAt) ⌝ }
 {
     let d = date_of(store);
@@ -131,6 +131,13 @@ fn on_station(store: &mut [u8], place: usize)
     } else {
         word(b"unsettled\n");
     }
+}
+
+// The work on the station at a place.
+fn on_station(store: &mut [u8], place: usize)
+    requires { ⌜ Framed (now store) × (place < wordOf (now store) countAt) ⌝ }
+{
+    show_entry(store, place);
     let a = block_at(store, place);
     let b = a + BLOCK;
     work(&mut store[a..b]);

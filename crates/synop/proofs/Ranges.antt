@@ -9,10 +9,11 @@ use lib.Dec.{T, leb, eqb, lit<, lit≤}
 use borrow.Author.Tests.{leb-true, leb-false, eqb-true, eqb-false}
 use Rattle.laws.specs.Table.{table}
 use Rattle.laws.proofs.Bools.{and-left, and-right, Known, is-true, is-false, known}
-use Rattle.codes.specs.Digits.{digit, two, three, four, given}
-use Rattle.codes.proofs.Numbers.{by-cond, digit-below, four-below}
-use Rattle.codes.specs.declared.Number.{Number}
-use Rattle.codes.specs.declared.Number.the-variants.{Slash, Digits}
+use Rattle.figures.specs.Digits.{digit, two, three, four, given}
+use Rattle.laws.proofs.Bools.{by-cond}
+use Rattle.figures.proofs.Numbers.{digit-below, four-below}
+use Rattle.figures.specs.declared.Number.{Number}
+use Rattle.figures.specs.declared.Number.the-variants.{Slash, Digits}
 use Rattle.text.specs.Characters.{isDigit}
 use Rattle.text.specs.Kinds.{tokens}
 use Rattle.text.specs.declared.Group.{Group}

@@ -5,7 +5,7 @@ use mathlib.Core.List.{List}
 use Prim.Native.Nat.{ℕ}
 use lib.Dec.{eqb}
 use borrow.Author.Tests.{eqb-true}
-use Rattle.codes.proofs.Numbers.{by-cond}
+use Rattle.laws.proofs.Bools.{by-cond}
 use Rattle.text.specs.Kinds.{tokens}
 use Rattle.text.specs.declared.Group.{Group}
 use Rattle.places.specs.Places.{isNil, final}

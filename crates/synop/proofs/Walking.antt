@@ -5,7 +5,7 @@
 --     past      after the last group
 -- Assumes nothing.
 use mathlib.Core.Path.{_≡_, refl, sym, _∙_, ap, subst}
-use mathlib.Core.Bool.{Bool, true, false, cond, _&&_}
+use mathlib.Core.Bool.{Bool, true, false, cond, _&&_, and-assoc, and-true}
 use mathlib.Core.List.{List, [], _∷_}
 use Prim.Native.Nat.{ℕ, _<_, _≤_}
 use native.Mathlib.Omega.{arith}
@@ -50,14 +50,6 @@ none s =
       each = λ k h. rw (getD-replicate 13 k Other Other h);
     }
 
-and-assoc : (a b c : Bool) → (a && (b && c)) ≡ ((a && b) && c)
-and-assoc true b c = refl
-and-assoc false b c = refl
-
-and-true-right : (a : Bool) → (a && true) ≡ a
-and-true-right true = refl
-and-true-right false = refl
-
 module _ {s : List ℕ} {kept : List Group} {p : Place} {good : Bool} {at : ℕ} (w : Walked s kept p good at) where
   -- the group's number is k, and x is what is kept under it
   taken : {g : Group} {to k : ℕ} {x : Group} → Kind s at g to → shaped p g ≡ true → k < 13 → k ≡ partOf (next p g) g → x ≡ firstOf (getD kept k Other) g
@@ -68,7 +60,7 @@ module _ {s : List ℕ} {kept : List Group} {p : Place} {good : Bool} {at : ℕ}
         long = length-set kept k x ∙ w .long;
         upto = step .within;
         shape = w .shape ∙ ap (shapedFrom p) (step .first) ∙ rw ok;
-        range = w .range ∙ ap (λ (gs : List Group). good && rangedFrom p gs) (step .first) ∙ and-assoc good (ranged p g) (rangedFrom (next p g) rest);
+        range = w .range ∙ ap (λ (gs : List Group). good && rangedFrom p gs) (step .first) ∙ sym (and-assoc good (ranged p g) (rangedFrom (next p g) rest));
         place = w .place ∙ ap (final p) (step .first);
         each = λ j h. w .each j h ∙ ap (λ (gs : List Group). firstOf (getD kept j Other) (first j p gs)) (step .first) ∙ by j (known (eqb (partOf (next p g) g) j));
       }
@@ -107,7 +99,7 @@ module _ {s : List ℕ} {kept : List Group} {p : Place} {good : Bool} {at : ℕ}
       shape = w .shape ∙ ap (shapedFrom p) e
 
       range : check4 (tokens s) ≡ good
-      range = w .range ∙ ap (λ (gs : List Group). good && rangedFrom p gs) e ∙ and-true-right good
+      range = w .range ∙ ap (λ (gs : List Group). good && rangedFrom p gs) e ∙ and-true good
 
       place : final Start (tokens s) ≡ p
       place = w .place ∙ ap (final p) e

@@ -7,7 +7,7 @@ use native.Mathlib.Omega.{arith}
 use borrow.Author.Tests.{lt-ltb, le-ltb}
 use lib.IntN.{ℤ, natAbs, subℕ}
 use Rattle.vapour.specs.Vapour.{S, q, term, total, Z, entry}
-use Rattle.vapour.proofs.Differences.{plus}
+use Rattle.laws.proofs.Differences.{plus}
 
 -- q from |t|, and its bound
 pub q-at : (i n : ℕ) → n ≡ natAbs (subℕ i 500) → 1767 * n * S / (100 * (i + 1935)) ≡ q (subℕ i 500)

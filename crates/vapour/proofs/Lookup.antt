@@ -11,7 +11,7 @@ use lib.IntN.{subℕ}
 use Rattle.laws.specs.Offset.{value}
 use Rattle.laws.proofs.Bools.{Known, is-true, is-false, known}
 use Rattle.vapour.specs.Vapour.{entry, pressure}
-use Rattle.vapour.proofs.Differences.{order, shift}
+use Rattle.laws.proofs.Differences.{order, shift}
 
 -- the dew point from its index, n − 32268: −500 tenths is 32268 in offset binary
 index : (n : ℕ) → 32268 ≤ n → value n ≡ subℕ (n - 32268) 500

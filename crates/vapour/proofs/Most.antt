@@ -12,7 +12,7 @@ use Rattle.laws.specs.All.{all}
 use Rattle.laws.proofs.Bools.{and-left, cond-true, cond-false, Known, is-true, is-false, known}
 use Rattle.laws.proofs.Tables.{all-at}
 use Rattle.vapour.specs.Vapour.{entry, inTable, pressure}
-use Rattle.vapour.proofs.Differences.{from-zero, below-zero}
+use Rattle.laws.proofs.Differences.{from-zero, below-zero}
 use Rattle.vapour.proofs.Pass.{quick, quick-is}
 
 small : ℕ → Bool

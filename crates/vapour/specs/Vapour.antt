@@ -1,10 +1,13 @@
 -- Vapour pressure in hundredths of hPa at a dew point of t tenths of a degree Celsius: document 01, "The day line", second bullet,
 -- sentence by sentence. On ℕ, a / b is floor(a / b).
 -- Assumes nothing.
+use mathlib.Core.Path.{_≡_}
 use mathlib.Core.Bool.{Bool, _&&_, cond}
+use mathlib.Core.List.{List}
 use mathlib.Core.Option.{Option, none, some}
-use Prim.Native.Nat.{ℕ, zero, suc, _+_, _*_, _/_}
-use lib.IntN.{ℤ, pos, negsuc, negℤ, natAbs, _+ℤ_}
+use Prim.Native.Nat.{ℕ, zero, suc, _+_, _*_, _/_, _<_}
+use lib.IntN.{ℤ, pos, negsuc, negℤ, natAbs, subℕ, _+ℤ_}
+use lib.ListN.{length, getD}
 use lib.Signed.{leZ}
 
 -- "S = 10^8"
@@ -33,6 +36,11 @@ Z t = total (term (q t)) 30
 unfoldable pub entry : ℤ → ℕ
 entry (pos n) = (1224 * Z (pos n) + S) / (2 * S)
 entry (negsuc n) = (1224 * S + Z (negsuc n)) / (2 * Z (negsuc n))
+
+-- "a table of 1001 entries, dew point t = −500 to 500 tenths": the entry at t = index − 500
+pub record Entries (xs : List ℕ) : Type 0 where
+  pub long : length xs ≡ 1001
+  pub each : (i : ℕ) → i < 1001 → getD xs i 0 ≡ entry (subℕ i 500)
 
 -- "dew point t = −500 to 500 tenths"
 abbrev pub inTable : ℤ → Bool

@@ -2,7 +2,7 @@
 ghost use mathlib.Core.Path.{_≡_};
 ghost use Prim.Native.Nat.{_<_};
 ghost use lib.IntN.{subℕ};
-ghost use Rattle.vapour.specs.Vapour.{entry};
+ghost use Rattle.vapour.specs.Vapour.{entry, Entries};
 
 // Hundredths of hPa. The numbers are what `recurrence::entry_at` computes at the indices 0 to 1000, and the program
 // `vapour_table` prints them; tools/vapour_table.py prints the same by itself. A comment gives the dew point of each
@@ -1011,10 +1011,17 @@ const TABLE: [u16; 1001] = [
     12419, // 500
 ];
 
-// The entry at an index, that of the dew point index − 500. No other function reads the table.
-pub fn at(index: usize) -> u16
-    requires { ⌜ index < 1001 ⌝ }
+// The whole table, for whoever looks up more than one: naming the constant copies it, so no other function does.
+pub fn entries() -> [u16; 1001]
+    ensures { λ r. ⌜ Entries r ⌝ }
+{
+    TABLE
+}
+
+// The entry at an index, that of the dew point index − 500.
+pub fn at(table: &[u16], index: usize) -> u16
+    requires { ⌜ (Entries (now table)) × (index < 1001) ⌝ }
     ensures { λ r. ⌜ r ≡ entry (subℕ index 500) ⌝ }
 {
-    TABLE[index]
+    table[index]
 }

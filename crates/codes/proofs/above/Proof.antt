@@ -3,9 +3,9 @@
 use mathlib.Core.Path.{ap}
 use borrow.Author.Needs.{needs}
 use Rattle.codes.specs.Value.{read}
-use Rattle.codes.proofs.Offset.{above-zero}
+use Rattle.laws.proofs.Differences.{from-zero}
 use Rattle.codes.proofs.above.Statement.{statement}
 use Rattle.codes.proofs.above.Tie as tie
 
 pub above-spec : {M : Type 1} → statement M
-above-spec = tie.close (tie.spec (λ c. search needs) (λ c. search needs) (λ c. ap read (above-zero (c .args .n))))
+above-spec = tie.close (tie.spec (λ c. search needs) (λ c. search needs) (λ c. ap read (from-zero 32768 (c .args .n))))

@@ -3,7 +3,7 @@
 use mathlib.Core.Path.{ap}
 use borrow.Author.Needs.{needs}
 use Rattle.codes.specs.Value.{read}
-use Rattle.codes.proofs.Offset.{below-zero}
+use Rattle.laws.proofs.Differences.{opposite}
 use Rattle.codes.proofs.below.Statement.{statement}
 use Rattle.codes.proofs.below.Tie as tie
 
@@ -13,4 +13,4 @@ below-spec =
     (tie.spec
     (λ c. search needs)
     (λ c. search needs)
-    (λ c. ap read (below-zero (c .args .n) (search needs))))
+    (λ c. ap read (opposite 32768 (c .args .n) (search needs))))

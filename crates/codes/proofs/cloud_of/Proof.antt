@@ -2,7 +2,7 @@
 -- Assumes nothing.
 use borrow.Author.Needs.{needs}
 use Rattle.laws.proofs.Rules.{tests}
-use Rattle.codes.specs.Elements.{cloudOf}
+use Rattle.codes.specs.Tables.{cloudOf}
 use Rattle.codes.proofs.cloud_of.Statement.{statement}
 use Rattle.codes.proofs.cloud_of.Tie as tie
 

@@ -2,7 +2,7 @@
 -- Assumes nothing.
 use borrow.Author.Needs.{needs}
 use Rattle.laws.proofs.Rules.{tests}
-use Rattle.codes.specs.Heads.{windDirectionOf}
+use Rattle.codes.specs.Tables.{windDirectionOf}
 use Rattle.codes.proofs.direction_of.Statement.{statement}
 use Rattle.codes.proofs.direction_of.Tie as tie
 

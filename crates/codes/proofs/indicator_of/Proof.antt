@@ -2,7 +2,7 @@
 -- Assumes nothing.
 use borrow.Author.Needs.{needs}
 use Rattle.laws.proofs.Rules.{tests}
-use Rattle.codes.specs.Heads.{rainIndicatorOf}
+use Rattle.codes.specs.Tables.{rainIndicatorOf}
 use Rattle.codes.proofs.indicator_of.Statement.{statement}
 use Rattle.codes.proofs.indicator_of.Tie as tie
 

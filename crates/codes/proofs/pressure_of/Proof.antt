@@ -2,7 +2,7 @@
 -- Assumes nothing.
 use borrow.Author.Needs.{needs}
 use Rattle.laws.proofs.Rules.{tests}
-use Rattle.codes.specs.Elements.{pressureOf}
+use Rattle.codes.specs.Tables.{pressureOf}
 use Rattle.codes.proofs.pressure_of.Statement.{statement}
 use Rattle.codes.proofs.pressure_of.Tie as tie
 

@@ -2,7 +2,7 @@
 -- Assumes nothing.
 use borrow.Author.Needs.{needs}
 use Rattle.laws.proofs.Rules.{tests}
-use Rattle.codes.specs.Elements.{rainOf}
+use Rattle.codes.specs.Tables.{rainOf}
 use Rattle.codes.proofs.rain_of.Statement.{statement}
 use Rattle.codes.proofs.rain_of.Tie as tie
 

@@ -2,7 +2,7 @@
 -- Assumes nothing.
 use borrow.Author.Needs.{needs}
 use Rattle.laws.proofs.Rules.{tests}
-use Rattle.codes.specs.Elements.{temperatureOf}
+use Rattle.codes.specs.Tables.{temperatureOf}
 use Rattle.codes.proofs.temperature_of.Statement.{statement}
 use Rattle.codes.proofs.temperature_of.Tie as tie
 

@@ -2,7 +2,7 @@
 -- Assumes nothing.
 use borrow.Author.Needs.{needs}
 use Rattle.laws.proofs.Rules.{tests}
-use Rattle.codes.specs.Elements.{visibilityOf}
+use Rattle.codes.specs.Tables.{visibilityOf}
 use Rattle.codes.proofs.visibility_of.Statement.{statement}
 use Rattle.codes.proofs.visibility_of.Tie as tie
 

@@ -2,7 +2,7 @@
 -- Assumes nothing.
 use borrow.Author.Needs.{needs}
 use Rattle.laws.proofs.Rules.{tests}
-use Rattle.codes.specs.Elements.{windOf}
+use Rattle.codes.specs.Tables.{windOf}
 use Rattle.codes.proofs.wind_of.Statement.{statement}
 use Rattle.codes.proofs.wind_of.Tie as tie
 

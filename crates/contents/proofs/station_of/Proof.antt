@@ -4,7 +4,7 @@ use borrow.Author.Needs.{needs}
 use mathlib.Core.Path.{_∙_, ap}
 use native.Mathlib.Omega.{arith}
 use lib.Dec.{lit<}
-use Rattle.codes.proofs.Numbers.{four-below, digit-below}
+use Rattle.figures.proofs.Numbers.{four-below, digit-below}
 use Rattle.contents.specs.Contents.{stationOf, numberOf}
 use Rattle.contents.proofs.Numbers.{answer-below}
 use Rattle.contents.proofs.station_of.Statement.{statement}

@@ -5,7 +5,7 @@ use Prim.Native.Nat.{_<_}
 use mathlib.Core.Path.{_∙_, ap}
 use native.Mathlib.Omega.{arith}
 use lib.Dec.{lit<}
-use Rattle.codes.proofs.Numbers.{two-below}
+use Rattle.figures.proofs.Numbers.{two-below}
 use Rattle.contents.specs.Contents.{twoOf, numberOf}
 use Rattle.contents.proofs.Numbers.{answer-below}
 use Rattle.contents.proofs.two_of.Statement.{statement}

@@ -1,6 +1,7 @@
 -- `text::are_figures` meets its contract, by what `is_figure` ensures of each character.
 -- Assumes nothing.
 use borrow.Author.Needs.{needs}
+use Rattle.laws.proofs.Bools.{and-eq}
 use Rattle.text.specs.Characters.{areFigures}
 use Rattle.text.proofs.are_figures.Statement.{statement}
 use Rattle.text.proofs.are_figures.Tie as tie
@@ -10,4 +11,8 @@ unfolding areFigures
 are-figures-spec =
     tie.close
     (tie.spec (λ c κs. search needs) (λ c κs. search needs) (λ c κs. search needs) (λ c κs. search needs) (λ c κs. search needs)
-    (λ c. cc))
+    (λ c. and-eq
+    (and-eq
+    (and-eq (and-eq (c .before .before .before .before .is-figure .ensures) (c .before .before .before .is-figure2 .ensures)) (c .before .before .is-figure3 .ensures))
+    (c .before .is-figure4 .ensures))
+    (c .is-figure5 .ensures)))

@@ -23,7 +23,7 @@ loop-holds c = (none _ _, refl)
 
 -- the answer at i
 tested : (c : tie.After-is-listed Inv-loop μ-loop) → let a = c .before .before .before .before .before .before .before .args in c .is-listed .result ≡ stationInOrder (now (a .stations)) (now (a .rows)) (c .before .before .before .before .loop .i)
-tested c = cc
+tested c = rw (c .is-listed .ensures, c .before .before .before .before .loop .inv .1)
 
 returns : tie.Need-returns Inv-loop μ-loop
 returns c =

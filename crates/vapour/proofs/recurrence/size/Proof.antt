@@ -1,7 +1,7 @@
 -- `vapour::recurrence::size` meets its contract, by the side of 0 on which t lies.
 -- Assumes nothing.
 use borrow.Author.Needs.{needs}
-use Rattle.vapour.proofs.Differences.{size-below, size-above}
+use Rattle.laws.proofs.Differences.{size-below, size-above}
 use Rattle.vapour.proofs.recurrence.size.Statement.{statement}
 use Rattle.vapour.proofs.recurrence.size.Tie as tie
 

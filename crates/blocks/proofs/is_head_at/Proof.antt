@@ -1,0 +1,21 @@
+-- `blocks::is_head_at` meets its contract.
+-- Assumes nothing.
+use borrow.Author.Needs.{needs}
+use Rattle.layout.specs.Sound.{soundHead}
+use Rattle.blocks.proofs.is_head_at.Statement.{statement}
+use Rattle.blocks.proofs.is_head_at.Tie as tie
+
+pub is-head-at-spec : {M : Type 1} → statement M
+unfolding soundHead
+is-head-at-spec =
+    tie.close
+    (tie.spec
+    (λ c. search needs)
+    (λ c. search needs)
+    (λ c. search needs)
+    (λ c. search needs)
+    (λ c. search needs)
+    (λ c. search needs)
+    (λ c. search needs)
+    (λ c κs. search needs)
+    (λ c. c .is-head .ensures))

@@ -1,0 +1,130 @@
+// Whether the stations' blocks of a store are sound: slot heads and cells, by document 01's "The store".
+ghost use mathlib.Core.Path.{_≡_};
+ghost use mathlib.Core.Bool.{not, _&&_, _||_};
+ghost use Prim.Native.Nat.{_+_, _*_, _≤_};
+ghost use lib.Dec.{leb, ltb, eqb};
+ghost use lib.ListN.{length};
+ghost use Rattle.laws.specs.All.{all};
+ghost use Rattle.layout.specs.Layout.{blockLength, blockAt, headLength, cellLength, sheetLength, rawFrom, headAt};
+ghost use Rattle.layout.specs.Valid.{isDirection};
+ghost use Rattle.layout.specs.Sound.{soundHead, soundCell, soundBlock};
+use buffer::at::BLOCK;
+use buffer::at::CELL;
+use buffer::at::CHECKED;
+use buffer::at::ENTRY;
+use buffer::at::HEAD;
+use buffer::at::HEADER;
+use buffer::at::RAW;
+use buffer::read::word_at;
+
+// A slot head's four bytes.
+fn is_head(filed: u8, ir: u8, tr: u8, dd: u8) -> bool
+    ensures { λ r. ⌜ r ≡ (leb filed 1 && leb ir 5 && leb tr 9 && isDirection dd) ⌝ }
+{
+    if 1 < filed {
+        return false;
+    }
+    if 5 < ir {
+        return false;
+    }
+    if 9 < tr {
+        return false;
+    }
+    (dd <= 36) | (dd == 99) | (dd == 100)
+}
+
+fn is_head_at(store: &[u8], at: usize) -> bool
+    requires { ⌜ at + headLength ≤ length (now store) ⌝ }
+    ensures { λ r. ⌜ r ≡ soundHead (now (store .entry)) at ⌝ }
+{
+    is_head(store[at], store[at + 1], store[at + 2], store[at + 3])
+}
+
+// The nine slot heads from a position on.
+fn are_heads(store: &[u8], at: usize) -> bool
+    requires { ⌜ at + rawFrom ≤ length (now store) ⌝ }
+    ensures { λ r. ⌜ r ≡ all (λ k. soundHead (now (store .entry)) (at + headAt k)) 9 ⌝ }
+{
+    for k in 0..9 {
+        if !is_head_at(store, at + HEAD * k) {
+            return false;
+        }
+    }
+    true
+}
+
+// A cell, with the largest state and flag that may stand there.
+fn is_cell(state: u8, flag: u8, value: u16, states: u8, flags: u8) -> bool
+    ensures { λ r. ⌜ r ≡ (leb state states && leb flag flags && not (eqb value 32768) && (ltb 0 state || eqb value 0)) ⌝ }
+{
+    if states < state {
+        return false;
+    }
+    if flags < flag {
+        return false;
+    }
+    if value == 32768 {
+        return false;
+    }
+    (0 < state) | (value == 0)
+}
+
+fn is_cell_at(store: &[u8], at: usize, states: u8, flags: u8) -> bool
+    requires { ⌜ at + cellLength ≤ length (now store) ⌝ }
+    ensures { λ r. ⌜ r ≡ soundCell states flags (now (store .entry)) at ⌝ }
+{
+    is_cell(
+        store[at],
+        store[at + 1],
+        word_at(store, at + 2),
+        states,
+        flags,
+    )
+}
+
+// The nine raw or checked cells of a slot from a position on.
+fn are_nine(store: &[u8], at: usize, states: u8, flags: u8) -> bool
+    requires { ⌜ at + 36 ≤ length (now store) ⌝ }
+    ensures { λ r. ⌜ r ≡ all (λ e. soundCell states flags (now (store .entry)) (at + cellLength * e)) 9 ⌝ }
+{
+    for e in 0..9 {
+        if !is_cell_at(store, at + CELL * e, states, flags) {
+            return false;
+        }
+    }
+    true
+}
+
+// The 81 raw or checked cells from a position on, slot by slot: a loop over nine is unrolled, which one over 81 is not.
+fn are_cells(store: &[u8], at: usize, states: u8, flags: u8) -> bool
+    requires { ⌜ at + sheetLength ≤ length (now store) ⌝ }
+    ensures { λ r. ⌜ r ≡ all (λ j. soundCell states flags (now (store .entry)) (at + cellLength * j)) 81 ⌝ }
+{
+    for k in 0..9 {
+        if !are_nine(store, at + 36 * k, states, flags) {
+            return false;
+        }
+    }
+    true
+}
+
+// The block that begins at a position: heads, raw cells with state 0 or 1 and flag 0, checked cells.
+fn is_block(store: &[u8], at: usize) -> bool
+    requires { ⌜ at + blockLength ≤ length (now store) ⌝ }
+    ensures { λ r. ⌜ r ≡ soundBlock (now (store .entry)) at ⌝ }
+{
+    are_heads(store, at) & are_cells(store, at + RAW, 1, 0) & are_cells(store, at + CHECKED, 3, 4)
+}
+
+// The n stations' blocks.
+pub fn are_blocks(store: &[u8], n: usize) -> bool
+    requires { ⌜ blockAt n n ≤ length (now store) ⌝ }
+    ensures { λ r. ⌜ r ≡ all (λ i. soundBlock (now (store .entry)) (blockAt n i)) n ⌝ }
+{
+    for i in 0..n {
+        if !is_block(store, HEADER + ENTRY * n + BLOCK * i) {
+            return false;
+        }
+    }
+    true
+}

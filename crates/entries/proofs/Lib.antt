@@ -1,0 +1,2 @@
+-- A law that this crate's proofs cite.
+pub mod Marks

@@ -1,0 +1,2 @@
+-- The settled mark written.
+pub mod Marked

@@ -1,0 +1,2 @@
+-- A law that this crate's proof cites.
+pub mod Sheet

@@ -1,0 +1,2 @@
+-- Laws of amounts of rain.
+pub mod Amounts

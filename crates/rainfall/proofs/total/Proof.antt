@@ -1,0 +1,37 @@
+-- `rainfall::total` meets its contract.
+-- Assumes nothing.
+use mathlib.Core.Path.{_∙_, ap, ap₂}
+use borrow.Author.Needs.{needs}
+use borrow.Author.Tests.{eq-eqb, ne-eqb}
+use Rattle.laws.proofs.Bools.{skip, took}
+use Rattle.daily.specs.Coded.{rainOf}
+use Rattle.daily.specs.Rain.{together, total}
+use Rattle.rainfall.proofs.total.Statement.{statement}
+use Rattle.rainfall.proofs.total.Tie as tie
+
+returns : tie.Need-returns
+unfolding total
+returns c =
+    c .answer .ensures ∙ ap rainOf (c .before .amount-at .ensures .amount ∙ took _ _ _ (eq-eqb _ _ (c .before .before .if1 .taken)))
+
+returns-2 : tie.Need-returns-2
+unfolding total
+returns-2 c =
+    let t = c .before in
+    c .answer2 .ensures ∙ ap rainOf
+    (skip _ _ _ _ (ne-eqb _ _ (t .before .before .before .if1 .left))
+    (t .together .ensures .amount ∙ ap₂ together (t .before .before .half .ensures .amount) (t .before .half2 .ensures .amount)))
+
+pub total-spec : {M : Type 1} → statement M
+total-spec =
+    tie.close
+    (tie.spec
+    (λ c. search needs)
+    (λ c κs. search needs)
+    (λ c κs. search needs)
+    returns
+    (λ c κs. search needs)
+    (λ c κs. search needs)
+    (λ c κs. search needs)
+    (λ c κs. search needs)
+    returns-2)
