@@ -4,13 +4,15 @@ use Rattle.rules.specs.Step.{Outcome}
 use Rattle.rules.specs.Calls.{Answer, cell, giveCell}
 use native.Mathlib.Omega.{arith}
 use mathlib.Core.Path.{_≡_, refl, sym, _∙_, ap, subst}
-use Rattle.engine.proofs.Outcomes as Outcomes
+use Rattle.layout.specs.Place.{nowhere, place}
+use Rattle.soundness.proofs.Locations as Locations
+use Rattle.deeds.proofs.Outcomes as Outcomes
 use borrow.Author.Needs.{needs}
 use Rattle.engine.proofs.cell.Statement.{statement}
 use Rattle.engine.proofs.cell.Tie as tie
 use Rattle.engine.proofs.cell.Reads as reads
 use Rattle.engine.proofs.cell.Lts as lts
-use Rattle.engine.proofs.asking.cell_at.Reads as cell-at-reads
+use Rattle.deeds.proofs.asking.cell_at.Reads as cell-at-reads
 use Rattle.soundness.proofs.find.locate.Reads as locate-reads
 
 locate-requires : tie.Need-locate-requires
@@ -27,20 +29,20 @@ enum-known-place c = search needs
 
 cell-at-requires : tie.Need-cell-at-requires
 cell-at-requires c κs =
-    let h = Outcomes.at-place (c .before .before .before .before .before .args .store .now) (c .before .before .before .before .before .args .station) _ (sym (c .before .before .before .locate .ensures) ∙ c .before .place .given .1) in
-    (record { sound = h .sound; bytes = record { each = λ k. omega (arith, c .before .before .before .before .shared-slice-known .given k) } }, Outcomes.within _ _ _ (h .place))
+    let h = Locations.searched (c .before .before .before .before .before .args .store .now) (c .before .before .before .before .before .args .station) (place _) (sym (c .before .before .before .locate .ensures) ∙ c .before .place .given .1) in
+    (record { sound = h .sound-store; bytes = record { each = λ k. omega (arith, c .before .before .before .before .shared-slice-known .given k) } }, Locations.within _ _ _ (h .answer))
 
 returns : tie.Need-returns
-returns c = ap (λ (o : Outcome). o .answer) (sym (Outcomes.step-unsound _ _ (Outcomes.unsound _ _ (sym (c .before .before .locate .ensures) ∙ c .enum-told .given .1))))
+returns c = ap (λ (o : Outcome). o .answer) (sym (Outcomes.step-unsound _ _ (Locations.unsound _ _ (sym (c .before .before .locate .ensures) ∙ c .enum-told .given .1))))
 
 returns-2 : tie.Need-returns-2
-returns-2 c = ap (λ (o : Outcome). o .answer) (sym (Outcomes.step-none _ _ _ _ refl (Outcomes.no-place _ _ (sym (c .before .before .locate .ensures) ∙ c .enum-told2 .given .1))))
+returns-2 c = ap (λ (o : Outcome). o .answer) (sym (Outcomes.step-none _ _ _ _ refl (Locations.searched _ _ nowhere (sym (c .before .before .locate .ensures) ∙ c .enum-told2 .given .1))))
 
 returns-3 : tie.Need-returns-3
 returns-3 c =
     let o = c .before .before .before .before .before .before .args in
     c .cell-at .ensures
-    ∙ ap (λ (o : Outcome). o .answer) (sym (Outcomes.cell-step _ _ _ (Outcomes.at-place _ _ _ (sym (c .before .before .before .before .locate .ensures) ∙ c .before .before .place .given .1)) (o .element) (o .slot)))
+    ∙ ap (λ (o : Outcome). o .answer) (sym (Outcomes.cell-step _ _ _ (Locations.searched _ _ (place _) (sym (c .before .before .before .before .locate .ensures) ∙ c .before .before .place .given .1)) (o .element) (o .slot)))
 
 pub cell-spec : {M : Type 1} → statement M
 cell-spec =

@@ -3,13 +3,15 @@
 use Rattle.rules.specs.Step.{Outcome}
 use native.Mathlib.Omega.{arith}
 use mathlib.Core.Path.{_≡_, refl, sym, _∙_, ap, subst}
-use Rattle.engine.proofs.Outcomes as Outcomes
+use Rattle.layout.specs.Place.{nowhere, place}
+use Rattle.soundness.proofs.Locations as Locations
+use Rattle.deeds.proofs.Outcomes as Outcomes
 use borrow.Author.Needs.{needs}
 use Rattle.engine.proofs.settle.Statement.{statement}
 use Rattle.engine.proofs.settle.Tie as tie
 use Rattle.engine.proofs.settle.Reads as reads
 use Rattle.engine.proofs.settle.Lts as lts
-use Rattle.engine.proofs.settling.settle_at.Reads as settle-at-reads
+use Rattle.deeds.proofs.settling.settle_at.Reads as settle-at-reads
 use Rattle.soundness.proofs.find.locate.Reads as locate-reads
 
 locate-requires : tie.Need-locate-requires
@@ -26,15 +28,15 @@ enum-known-place c = search needs
 
 settle-at-requires : tie.Need-settle-at-requires
 settle-at-requires c κs =
-    let h = Outcomes.at-place (c .before .before .before .before .before .before .before .args .store .now) (c .before .before .before .before .before .before .before .args .station) _ (sym (c .before .before .before .before .locate .ensures) ∙ c .before .before .place .given .1) in
-    (record { sound = h .sound; bytes = record { each = λ k. omega (arith, c .before .before .before .before .before .before .slice-known .given k) } }, Outcomes.within _ _ _ (h .place))
+    let h = Locations.searched (c .before .before .before .before .before .before .before .args .store .now) (c .before .before .before .before .before .before .before .args .station) (place _) (sym (c .before .before .before .before .locate .ensures) ∙ c .before .before .place .given .1) in
+    (record { sound = h .sound-store; bytes = record { each = λ k. omega (arith, c .before .before .before .before .before .before .slice-known .given k) } }, Locations.within _ _ _ (h .answer))
 
 same-length : tie.Need-same-length
 same-length c = search needs
 
 returns : tie.Need-returns
 returns c =
-    let e = Outcomes.step-unsound _ _ (Outcomes.unsound _ _ (sym (c .before .before .locate .ensures) ∙ c .enum-told .given .1)) in
+    let e = Outcomes.step-unsound _ _ (Locations.unsound _ _ (sym (c .before .before .locate .ensures) ∙ c .enum-told .given .1)) in
     record { answer = ap (λ (o : Outcome). o .answer) (sym e); left = ap (λ (o : Outcome). o .store) (sym e) }
 
 same-length-2 : tie.Need-same-length-2
@@ -42,7 +44,7 @@ same-length-2 c = search needs
 
 returns-2 : tie.Need-returns-2
 returns-2 c =
-    let e = Outcomes.step-none _ _ _ _ refl (Outcomes.no-place _ _ (sym (c .before .before .locate .ensures) ∙ c .enum-told2 .given .1)) in
+    let e = Outcomes.step-none _ _ _ _ refl (Locations.searched _ _ nowhere (sym (c .before .before .locate .ensures) ∙ c .enum-told2 .given .1)) in
     record { answer = ap (λ (o : Outcome). o .answer) (sym e); left = ap (λ (o : Outcome). o .store) (sym e) }
 
 same-length-3 : tie.Need-same-length-3
@@ -50,7 +52,7 @@ same-length-3 c = search needs
 
 returns-3 : tie.Need-returns-3
 returns-3 c =
-    let e = Outcomes.settle-step _ _ _ (Outcomes.at-place _ _ _ (sym (c .before .before .before .before .before .before .before .locate .ensures) ∙ c .before .before .before .before .before .place .given .1)) in
+    let e = Outcomes.settle-step _ _ _ (Locations.searched _ _ (place _) (sym (c .before .before .before .before .before .before .before .locate .ensures) ∙ c .before .before .before .before .before .place .given .1)) in
     record { answer = ap (λ (o : Outcome). o .answer) (sym e); left = c .before .before .settle-at .ensures ∙ ap (λ (o : Outcome). o .store) (sym e) }
 
 pub settle-spec : {M : Type 1} → statement M

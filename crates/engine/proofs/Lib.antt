@@ -1,4 +1,0 @@
--- Laws that the calls' proofs cite.
-pub mod Stores
-pub mod Outcomes
-pub mod Filed

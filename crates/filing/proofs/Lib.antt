@@ -1,0 +1,2 @@
+-- Laws on a filed report.
+pub mod Filed
