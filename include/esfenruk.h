@@ -35,6 +35,11 @@ uint32_t esfenruk_cell(const uint8_t *store, size_t store_length, uint32_t stati
    read, corrected, filled, missing. */
 uint32_t esfenruk_day(const uint8_t *store, size_t store_length, uint32_t station, double means[6], int32_t numbers[14]);
 
+/* Files the reports of a bulletin in order: 0, or 9, 1, 3, 4 for the whole. `text` is the heading `AAXX YYGGiw` and then
+   reports without it, each ended by `=`, at most 16384 bytes. The store's soundness is tested once.
+   counts: how many reports were accepted, and how many refused. */
+uint32_t esfenruk_bulletin(uint8_t *store, size_t store_length, const uint8_t *text, size_t text_length, uint32_t counts[2]);
+
 #ifdef __cplusplus
 }
 #endif

@@ -4,32 +4,25 @@ use mathlib.Core.Path.{_≡_, refl, sym, _∙_, ap, subst}
 use mathlib.Core.Bool.{Bool, true, false}
 use mathlib.Core.List.{List}
 use Prim.Native.Nat.{ℕ, _-_, _<_}
-use borrow.Author.Tests.{lt-ltb}
 use native.Mathlib.Omega.{arith}
 use lib.ListN.{length, take}
 use Rattle.layout.specs.Layout.{decode}
 use Rattle.layout.specs.Sound.{sound}
-use Rattle.checks.specs.Bytes.{check1}
-use Rattle.checks.specs.Refusal.{refusal}
-use Rattle.synop.specs.Report.{Report, read, report}
-use Rattle.rules.specs.Calls.{Answer, refused, file, ask, askFile}
+use Rattle.synop.specs.Report.{Report}
+use Rattle.rules.specs.Calls.{Answer, refused, isAccepted, file, ask, askFile}
 use Rattle.rules.specs.Step.{Outcome, unchanged, asked, step}
 use Rattle.rules.proofs.Steps.{sound-step}
 use Rattle.rules.proofs.Deeds.{all-lawful}
-use Rattle.rules.proofs.Reports.{report-bounds}
-use Rattle.engine.specs.Good.{Good}
-use Rattle.engine.specs.Replies.{Did}
-use Rattle.engine.proofs.Outcomes.{step-sound}
+use Rattle.rules.proofs.Reports.{report-bounds, long-report}
+use Rattle.deeds.specs.Good.{Good}
+use Rattle.deeds.specs.Replies.{Did}
+use Rattle.deeds.proofs.Outcomes.{step-sound}
 use Rattle.bulletin.specs.Rebuilt.{rebuilt}
-use Rattle.bulletin.specs.Bulletin.{isAccepted, Filed}
+use Rattle.bulletin.specs.Bulletin.{Filed}
 
 -- the part of a buffer from 0 on
 pub front : (buf : List ℕ) {t : List ℕ} (m : ℕ) → take m buf ≡ t → take (m - 0) buf ≡ t
 front buf m e = let z : m - 0 ≡ m = omega arith in ap (λ (k : ℕ). take k buf) z ∙ e
-
-long-report : (t : List ℕ) → 512 < length t → report t ≡ Report.refused 1
-unfolding report read refusal check1
-long-report t h = rw (lt-ltb 512 (length t) h)
 
 module _ (head : List ℕ) (gs : List (List ℕ)) (s : List ℕ) where
   pub too-long : sound s ≡ true → 512 < length (rebuilt head gs) → Filed head gs s false s

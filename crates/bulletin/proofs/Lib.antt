@@ -3,3 +3,4 @@ pub mod Cuts
 pub mod Buffer
 pub mod Filing
 pub mod Reports
+pub mod Headings

@@ -5,14 +5,17 @@ use mathlib.Core.Bool.{Bool, true, false, cond, _&&_}
 use mathlib.Core.List.{List, [], _∷_}
 use Prim.Native.Nat.{ℕ, _+_, _≤_}
 use lib.Dec.{leb}
-use lib.ListN.{length}
+use lib.ListN.{length, drop}
 use Rattle.layout.specs.Sound.{sound}
+use Rattle.text.specs.Groups.{groups}
 use Rattle.text.specs.Kinds.{kindOf}
-use Rattle.rules.specs.Calls.{Answer, refused, accepted, aCell, aDay, file}
+use Rattle.rules.specs.Calls.{isAccepted, file}
 use Rattle.rules.specs.Step.{Outcome, step}
 use Rattle.bulletin.specs.Pieces.{parted}
-use Rattle.bulletin.specs.Heading.{Heading, faulty, timed, headingOf}
+use Rattle.bulletin.specs.Heading.{headingOf}
 use Rattle.bulletin.specs.Rebuilt.{heading, rebuilt}
+use Rattle.bulletin.specs.declared.Heading.{Heading}
+use Rattle.bulletin.specs.declared.Heading.the-variants.{Faulty, Timed}
 use Rattle.bulletin.specs.declared.BulletinReply.{BulletinReply}
 use Rattle.bulletin.specs.declared.BulletinReply.the-variants as reply
 
@@ -21,12 +24,6 @@ pub record Counts : Type 0 where
   pub store : List ℕ
   pub accepted : ℕ
   pub refused : ℕ
-
-abbrev pub isAccepted : Answer → Bool
-isAccepted (refused n) = false
-isAccepted accepted = true
-isAccepted (aCell c) = false
-isAccepted (aDay d) = false
 
 -- one report answered
 abbrev pub counted : Bool → List ℕ → Counts → Counts
@@ -72,8 +69,8 @@ abbrev pub atFirst : List ℕ → Counts
 atFirst s = record { store = s; accepted = 0; refused = 0 }
 
 abbrev pub under : Heading → List (List (List ℕ)) → List ℕ → Result
-under (faulty n) ps s = unchanged n s
-under (timed a b c d e) ps s = told (filings (heading a b c d e) ps (atFirst s))
+under (Faulty n) ps s = unchanged n s
+under (Timed a b c d e) ps s = told (filings (heading a b c d e) ps (atFirst s))
 
 -- the heading is the first two groups; "3 also where `=` or the end cuts it before its second group is whole"
 unfoldable pub headed : List (List (List ℕ)) → List ℕ → Result
@@ -107,6 +104,11 @@ pub record Tallied (t : Counts) (a r : ℕ) (s : List ℕ) : Type 0 where
   pub accepted : a ≡ t .accepted
   pub refused : r ≡ t .refused
   pub left : s ≡ t .store
+
+-- in a piece that stands first, the heading h is read and the reports' groups stand from `at` on
+pub record Begins (p : List ℕ) (h : Heading) (at : ℕ) : Type 0 where
+  pub upto : at ≤ length p
+  pub same : (more : List (List (List ℕ))) (s : List ℕ) → headed (groups p ∷ more) s ≡ under h (groups (drop at p) ∷ more) s
 
 -- the reports of a text that is not too long stand from `at` on, and the store is sound
 pub record Ready (s text : List ℕ) (at : ℕ) : Type 0 where

@@ -1,20 +1,24 @@
-// Bulletins: a heading, then reports without it, filed one after the other with that heading.
-// Here is what comes after the heading: a report rebuilt with the heading and filed, and all reports of a text one after the other with their
-// counts. The definitions in specs/ are those of the whole call.
+// Bulletins: a heading, then reports without it, filed one after the other with that heading. The call `bulletin` has no `requires`: it
+// answers on every buffer and text, and its contract gives the whole answer and every byte of the store at exit.
 ghost use mathlib.Core.Path.{_≡_};
 ghost use mathlib.Core.Bool.{true, cond};
 ghost use mathlib.Core.List.{List, [], _∷_, _++_};
 ghost use Prim.Native.Nat.{ℕ, _≤_};
 ghost use lib.ListN.{length, drop};
 ghost use Rattle.text.specs.Groups.{groups};
+ghost use Rattle.text.specs.Kinds.{onFive};
+ghost use Rattle.bulletin.specs.declared.Heading.the-variants.{Faulty};
 ghost use Rattle.bulletin.specs.Rebuilt.{spaced, heading};
 ghost use Rattle.bulletin.specs.Walk.{Reached, Holds, added};
 ghost use Rattle.text.specs.Characters as characters;
 ghost use Rattle.layout.specs.Sound.{sound};
-ghost use Rattle.bulletin.specs.Bulletin.{Filed, none, filings, atFirst, Tallied, Ready};
+ghost use Rattle.bulletin.specs.Heading.{timeOf, headingOf};
+ghost use Rattle.bulletin.specs.Bulletin.{Filed, none, filings, atFirst, Tallied, Ready, Begins, result, Gave};
 ghost use Rattle.bulletin.specs.Pieces.{parted};
-use engine::answer::Reply;
+use deeds::answer::Reply;
+use places::Place;
 use text::Cursor;
+use text::Group;
 use text::Step;
 
 // The reports that were accepted, and those that were refused.
@@ -28,6 +32,88 @@ pub enum BulletinReply {
     Counted(Tally),
     Refused(u32),
 }
+
+// A heading: refused with a number, or the characters of YYGGiw.
+enum Heading {
+    Faulty(u32),
+    Timed(u8, u8, u8, u8, u8),
+}
+
+// The heading of a bulletin, and where its reports begin.
+struct Start {
+    heading: Heading,
+    at: usize,
+}
+
+// ---- the heading
+
+// YYGGiw by its characters: check 3, then 4.
+fn time_of(a: u8, b: u8, c: u8, d: u8, e: u8) -> Heading
+    ensures { λ r. ⌜ r ≡ timeOf a b c d e ⌝ }
+{
+    let time = Group::Five(a, b, c, d, e);
+    if checks::shaped(Place::Letters, time) {
+        if checks::ranged(Place::Letters, time) {
+            return Heading::Timed(a, b, c, d, e);
+        }
+        return Heading::Faulty(4);
+    }
+    Heading::Faulty(3)
+}
+
+// The group after `AAXX`.
+fn second(g: Group) -> Heading
+    ensures { λ r. ⌜ r ≡ onFive (Faulty 3) timeOf g ⌝ }
+{
+    match g {
+        Group::Other => Heading::Faulty(3),
+        Group::Aaxx => Heading::Faulty(3),
+        Group::Nil => Heading::Faulty(3),
+        Group::Section(_) => Heading::Faulty(3),
+        Group::Five(a, b, c, d, e) => time_of(a, b, c, d, e),
+    }
+}
+
+// The first two groups of a bulletin.
+fn heading_of(g: Group, h: Group) -> Heading
+    ensures { λ r. ⌜ r ≡ headingOf g h ⌝ }
+{
+    if checks::shaped(Place::Start, g) {
+        return second(h);
+    }
+    Heading::Faulty(3)
+}
+
+// The heading that a bulletin's first piece begins with.
+fn start_of(piece: &[u8]) -> Start
+    ensures { λ r. ⌜ Begins (now (piece .entry)) (r .heading) (r .at) ⌝ }
+{
+    let Step::Group { start, end, next } = Cursor::new().step(piece) else {
+        return Start {
+            heading: Heading::Faulty(3),
+            at: 0,
+        };
+    };
+    let g = text::kind_of(&piece[start..end]);
+    let Step::Group {
+        start: from,
+        end: to,
+        next: after,
+    } = next.step(piece)
+    else {
+        return Start {
+            heading: Heading::Faulty(3),
+            at: 0,
+        };
+    };
+    let h = text::kind_of(&piece[from..to]);
+    Start {
+        heading: heading_of(g, h),
+        at: after.at,
+    }
+}
+
+// ---- the reports
 
 // Where the next `=` stands, or the text's end.
 fn end_of(s: &[u8], at: usize) -> usize
@@ -187,4 +273,29 @@ fn file_reports(
     }
     refused += one_unless(is_blank(&text[i..end]));
     Tally { accepted, refused }
+}
+
+// ---- the call
+
+// A bulletin: refused whole 9, 1, then 3 or 4; otherwise its reports are filed in order and counted. The store is tested once.
+pub fn bulletin(store: &mut [u8], text: &[u8]) -> BulletinReply
+    ensures { λ r. ⌜ Gave (result (now (store .entry)) (now (text .entry))) r (now (store .exit)) ⌝ }
+{
+    if !soundness::sound::is_sound(store) {
+        return BulletinReply::Refused(9);
+    }
+    let fits = (1 <= text.len()) & (text.len() <= 16384);
+    if !fits {
+        return BulletinReply::Refused(1);
+    }
+    let end = end_of(text, 0);
+    let start = start_of(&text[0..end]);
+    let at = start.at;
+    let heading = start.heading;
+    match heading {
+        Heading::Faulty(n) => BulletinReply::Refused(n),
+        Heading::Timed(a, b, c, d, e) => {
+            BulletinReply::Counted(file_reports(store, text, at, a, b, c, d, e))
+        }
+    }
 }

@@ -4,8 +4,8 @@ use mathlib.Core.Path.{_≡_, refl, sym, ap}
 use Prim.Native.Nat.{ℕ}
 use Rattle.daily.specs.Line as Line
 use Rattle.daily.specs.declared.DayLine.{DayLine}
-use Rattle.engine.specs.Replies.{SaysDay}
-use Rattle.engine.specs.declared.answer.DayReply.the-variants as reply
+use Rattle.deeds.specs.Replies.{SaysDay}
+use Rattle.deeds.specs.declared.answer.DayReply.the-variants as reply
 use Rattle.rules.specs.Calls.{Answer, refused, accepted, aCell, aDay}
 use Rattle.capi.specs.Arrays.{lineOf}
 

@@ -7,8 +7,8 @@ use daily::DayLine;
 use daily::Extreme;
 use daily::Mean;
 use daily::Rain;
-use daily::offset::less;
-use engine::answer::Reading;
+use deeds::answer::Reading;
+use laws::less;
 
 // A checked cell: state, flag, value.
 pub fn cell_numbers(c: Reading) -> [i32; 3]

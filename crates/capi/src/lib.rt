@@ -1,19 +1,21 @@
-// The calls for C and Rust: open, file, settle, cell and day. Each returns 0 or the refusal's number, and writes what it answers into the
+// The calls for C and Rust: open, file, settle, cell, day and bulletin. Each returns 0 or the refusal's number, and writes what it answers into the
 // caller's arrays, which a refusal leaves as they are. No call has a `requires`: each answers on every buffer and argument.
 mod arrays;
 
 ghost use mathlib.Core.Path.{_≡_};
 ghost use Rattle.capi.specs.Arrays.{cellNumbers, dayFloats, dayNumbers};
-ghost use Rattle.capi.specs.Numbers.{number, Returned};
-ghost use Rattle.engine.specs.Replies.{reply, openOutcome};
+ghost use Rattle.capi.specs.Numbers.{number, Returned, Delivered};
+ghost use Rattle.bulletin.specs.Bulletin.{result};
+ghost use Rattle.deeds.specs.Replies.{reply, openOutcome};
 ghost use Rattle.rules.specs.Calls as Calls;
 ghost use Rattle.rules.specs.Step.{step};
 use arrays::cell_numbers;
 use arrays::line_floats;
 use arrays::line_numbers;
-use engine::answer::CellReply;
-use engine::answer::DayReply;
-use engine::answer::Reply;
+use bulletin::BulletinReply;
+use deeds::answer::CellReply;
+use deeds::answer::DayReply;
+use deeds::answer::Reply;
 
 // The number of an answer without a value.
 fn number_of(r: Reply) -> u32
@@ -94,6 +96,20 @@ pub extern "C" fn esfenruk_day(
         DayReply::Line(l) => {
             *means = line_floats(l);
             *numbers = line_numbers(l);
+            0
+        }
+    }
+}
+
+// Files the reports of a bulletin in order, and how many were accepted and refused into `counts`: 0, or 9, 1, 3, 4 for the whole.
+#[no_mangle]
+pub extern "C" fn esfenruk_bulletin(store: &mut [u8], text: &[u8], counts: &mut [u32; 2]) -> u32
+    ensures { λ r. ⌜ Delivered (result (now (store .entry)) (now (text .entry))) (now (counts .entry)) r (now (store .exit)) (now (counts .exit)) ⌝ }
+{
+    match bulletin::bulletin(store, text) {
+        BulletinReply::Refused(n) => n,
+        BulletinReply::Counted(t) => {
+            *counts = [t.accepted, t.refused];
             0
         }
     }

@@ -4,11 +4,11 @@ use mathlib.Core.Path.{_≡_, sym, ap}
 use mathlib.Core.Bool.{true, false}
 use native.Mathlib.Omega.{arith}
 use Rattle.text.specs.Groups.{groups}
-use Rattle.engine.specs.Good.{Good}
-use Rattle.engine.specs.Replies.{reply}
-use Rattle.engine.specs.declared.answer.Reply.{Reply}
+use Rattle.deeds.specs.Good.{Good}
+use Rattle.deeds.specs.Replies.{reply}
+use Rattle.deeds.specs.declared.answer.Reply.{Reply}
 use Rattle.bulletin.specs.Rebuilt.{heading, rebuilt}
-use Rattle.bulletin.specs.Bulletin.{isAccepted}
+use Rattle.rules.specs.Calls.{isAccepted}
 use Rattle.bulletin.specs.Walk.{Holds}
 use Rattle.bulletin.proofs.Filing.{front, too-long, filed}
 use borrow.Author.Needs.{needs}

@@ -1,7 +1,7 @@
 -- `capi::esfenruk_cell` meets its contract.
 -- Assumes nothing.
 use mathlib.Core.Path.{_≡_, sym, _∙_, ap}
-use Rattle.engine.specs.Replies.{cellReply}
+use Rattle.deeds.specs.Replies.{cellReply}
 use Rattle.rules.specs.Calls.{Answer}
 use Rattle.capi.specs.Numbers.{number}
 use Rattle.capi.specs.Arrays.{cellNumbers}

@@ -4,8 +4,8 @@ use borrow.Author.Needs.{needs}
 use mathlib.Core.Path.{_≡_, sym, _∙_, ap, subst}
 use lib.IntN.{ℤ}
 use Rattle.daily.specs.declared.DayLine.{DayLine}
-use Rattle.engine.specs.Replies.{SaysDay}
-use Rattle.engine.specs.declared.answer.DayReply.{DayReply}
+use Rattle.deeds.specs.Replies.{SaysDay}
+use Rattle.deeds.specs.declared.answer.DayReply.{DayReply}
 use Rattle.rules.specs.Calls.{Answer, day}
 use Rattle.rules.specs.Step.{step}
 use Rattle.capi.specs.Numbers.{number}

@@ -10,7 +10,7 @@ use Rattle.capi.proofs.arrays.cell_numbers.Statement.{statement}
 use Rattle.capi.proofs.arrays.cell_numbers.Tie as tie
 use Rattle.capi.proofs.arrays.cell_numbers.Reads as reads
 use Rattle.capi.proofs.arrays.cell_numbers.Lts as lts
-use Rattle.daily.proofs.offset.less.Reads as less-reads
+use Rattle.laws.proofs.less.Reads as less-reads
 
 cast-less : tie.Need-cast-less
 cast-less c = search needs

@@ -11,7 +11,7 @@ use Rattle.capi.proofs.arrays.slot_number.Statement.{statement}
 use Rattle.capi.proofs.arrays.slot_number.Tie as tie
 use Rattle.capi.proofs.arrays.slot_number.Reads as reads
 use Rattle.capi.proofs.arrays.slot_number.Lts as lts
-use Rattle.daily.proofs.offset.less.Reads as less-reads
+use Rattle.laws.proofs.less.Reads as less-reads
 
 enum-told : tie.Need-enum-told
 enum-told c = search needs
