@@ -1,2 +1,2 @@
--- Laws that the proofs of this program cite.
-pub mod Sizes
+-- Laws that this crate's proofs cite.
+pub mod Lines
