@@ -1,7 +1,6 @@
--- A text walked byte by byte: what is left from place i on decides what was asked of the whole.
+-- The first place of a byte: what is left from place i on decides what was asked of the whole text.
 -- Assumes nothing.
 use mathlib.Core.Path.{_≡_, refl, sym, _∙_, ap}
-use mathlib.Core.Bool.{Bool, true, false}
 use mathlib.Core.List.{List, [], _∷_}
 use Prim.Native.Nat.{ℕ, zero, suc, _+_, _<_, _≤_}
 use native.Mathlib.Numerals.{add-one}
@@ -10,43 +9,11 @@ use borrow.Author.Tests.{eq-eqb, ne-eqb}
 use lib.Dec.{eqb}
 use lib.ListN.{length, drop, getD, drop-of-length-le}
 use lib.Seq.{drop-cons}
-use Rattle.laws.proofs.Bools.{via}
-use Rattle.dayline_text.specs.Cuts.{isBlank, allBlank, index, Found}
+use Rattle.dayline_text.specs.Cuts.{index, Found}
 
 -- the rest from i on is the byte at i and the rest after it
 rest-cons : (s : List ℕ) (i : ℕ) → i < length s → drop i s ≡ getD s i 0 ∷ drop (i + 1) s
 rest-cons s i h = drop-cons s i 0 h ∙ ap (λ (k : ℕ). getD s i 0 ∷ drop k s) (sym (add-one i))
-
--- ---- blanks
-blank-more : (b : ℕ) (s : List ℕ) → isBlank b ≡ true → allBlank (b ∷ s) ≡ allBlank s
-unfolding allBlank
-blank-more b s e = rw e
-
-blank-not : (b : ℕ) (s : List ℕ) → isBlank b ≡ false → allBlank (b ∷ s) ≡ false
-unfolding allBlank
-blank-not b s e = rw e
-
-blank-none : allBlank [] ≡ true
-unfolding allBlank
-blank-none = refl
-
--- the first i bytes are blanks
-pub record Blank (s : List ℕ) (i : ℕ) : Type 0 where
-  pub same : allBlank s ≡ allBlank (drop i s)
-
-pub blank-start : (s : List ℕ) → Blank s 0
-blank-start s = record { same = refl }
-
--- r is what the code's test of the byte at i answered
-module _ {s : List ℕ} {i : ℕ} {r : Bool} where
-  pub blanks-more : Blank s i → i < length s → r ≡ isBlank (getD s i 0) → r ≡ true → Blank s (i + 1)
-  blanks-more v h e t = record { same = v .same ∙ ap allBlank (rest-cons s i h) ∙ blank-more (getD s i 0) (drop (i + 1) s) (via e t) }
-
-  pub blanks-not : Blank s i → i < length s → r ≡ isBlank (getD s i 0) → r ≡ false → false ≡ allBlank s
-  blanks-not v h e t = sym (v .same ∙ ap allBlank (rest-cons s i h) ∙ blank-not (getD s i 0) (drop (i + 1) s) (via e t))
-
-pub blanks-all : {s : List ℕ} {i : ℕ} → Blank s i → length s ≤ i → true ≡ allBlank s
-blanks-all {s} {i} v h = sym (v .same ∙ ap allBlank (drop-of-length-le s h) ∙ blank-none)
 
 -- ---- the first place of a byte
 index-here : (b x : ℕ) (s : List ℕ) → x ≡ b → index b (x ∷ s) ≡ 0

@@ -1,3 +1,0 @@
--- Laws that the proofs of this program cite.
-mod Parts
-mod Sizes

@@ -1,0 +1,27 @@
+-- `whole` is safe: a store of at most 32 stations fits.
+-- Assumes nothing.
+use borrow.Author.Needs.{needs}
+use mathlib.Core.Path.{_≡_, sym}
+use mathlib.Core.List.{List}
+use Prim.Native.Nat.{ℕ, _+_, _*_, _≤_}
+use native.Mathlib.Omega.{arith}
+use lib.ListN.{length, take}
+use Rattle.dayline_text.proofs.Parts.{counts}
+use Rattle.dayline.proofs.whole.Statement.{statement}
+use Rattle.dayline.proofs.whole.Tie as tie
+
+-- so many bytes are lent of the room for 32 stations
+lent : (n : ℕ) (store : List ℕ) → n ≤ 32 → 22160 ≡ length store → 16 + 692 * n ≡ length (take (16 + 692 * n) store)
+lent n store h e = counts (16 + 692 * n) 22160 store (omega arith) (sym e)
+
+slice-aggregate-run : tie.Need-slice-aggregate-run
+slice-aggregate-run c = lent _ _ (c .before .before .before .opened .ensures .few) (c .before .store-space .ensures)
+
+run-requires : tie.Need-run-requires
+run-requires c κs = (search needs, (search needs, sym (lent _ _ (c .before .before .before .before .opened .ensures .few) (c .before .before .store-space .ensures))))
+
+pub whole-spec : {M : Type 1} → statement M
+whole-spec =
+    tie.close
+    (tie.spec (λ c κs. search needs) (λ c. search needs) (λ c. search needs) (λ c κs. search needs) (λ c. search needs) (λ c. search needs)
+    (λ c κs. search needs) (λ c. search needs) slice-aggregate-run run-requires (λ c. search needs) (λ c. search needs))

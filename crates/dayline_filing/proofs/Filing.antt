@@ -1,0 +1,188 @@
+-- A report filed from what is kept of it, and the reports of a text filed as it is read.
+-- Assumes nothing.
+use mathlib.Core.Path.{_≡_, refl, sym, _∙_, ap, ap₂, subst}
+use mathlib.Core.Bool.{Bool, true, false, _&&_, cond}
+use mathlib.Core.List.{List, [], _∷_, _++_}
+use mathlib.Core.Logic.{_⊎_, ⊎-elim}
+use Prim.Native.Nat.{ℕ, _+_, _<_, _≤_}
+use native.Mathlib.Decide.{decLt}
+use native.Mathlib.Numerals.{add-one}
+use native.Mathlib.Omega.{arith}
+use lib.ListN.{length, take, getD}
+use lib.Seq.{take-all, take-suc, take-nil, length-take-le}
+use Rattle.laws.proofs.Bools.{and-eq}
+use Rattle.layout.specs.Layout.{decode}
+use Rattle.layout.specs.Sound.{sound}
+use Rattle.synop.specs.Report.{Report}
+use Rattle.rules.specs.Calls.{Answer, refused, isAccepted, file, ask, askFile}
+use Rattle.rules.proofs.Reports.{long-report}
+use Rattle.rules.specs.Step.{Outcome, unchanged, asked, step}
+use Rattle.deeds.specs.Replies.{Did}
+use Rattle.dayline_text.specs.Cuts.{Kept, Adds, isBlank}
+use Rattle.dayline_filing.specs.declared.Progress.{Progress}
+use Rattle.dayline_filing.specs.Reports.{reports, rest, allBlank, tail, inputReports}
+use Rattle.dayline_filing.specs.Filing.{Tally, more, filing, filings, Filed, Ended, Room, Under, Fed, Feeds, Begun}
+use Rattle.dayline_filing.proofs.Cutting.{reports-none, rest-none, reports-end, rest-end, reports-on, rest-on, rest-two, reports-two, blank-none, blank-more}
+
+-- ---- a report beyond 512 bytes is refused whatever it holds
+step-long : (s t u : List ℕ) → 512 < length t → 512 < length u → step (file t) s ≡ step (file u) s
+unfolding step
+step-long s t u h k =
+    ap (λ (r : Report). cond (sound s) (asked (askFile r) (decode s) s) (unchanged (refused 9) s)) (long-report t h ∙ sym (long-report u k))
+
+-- so what is kept of a report does for the whole
+module _ (s kept run : List ℕ) (held : ℕ) (room : Room kept held) (v : Kept kept held run) where
+  first : take held kept ≡ take 513 run
+  first = v .same ∙ ap (λ (k : ℕ). take k run) (room .size)
+
+  step-kept : step (file (take held kept)) s ≡ step (file run) s
+  step-kept = go (decLt 513 (length run))
+    where
+      go : Dec (513 < length run) → step (file (take held kept)) s ≡ step (file run) s
+      go (yes h) =
+          ap (λ (t : List ℕ). step (file t) s) first
+          ∙ step-long s (take 513 run) run (omega (arith, length-take-le 513 run (omega arith))) (omega arith)
+      go (no h) = ap (λ (t : List ℕ). step (file t) s) (first ∙ take-all 513 run (omega arith))
+
+  pub filed : (n : ℕ) (a : Answer) (t : List ℕ) (m : ℕ) → Did (step (file (take held kept)) s) a t → m ≡ cond (isAccepted a) n (more n) → Filed run s n t m
+  unfolding filing
+  filed n a t m d e =
+      ap₂ (λ (x : List ℕ) (y : ℕ). record { store = x; refused = y }) (d .left ∙ ap (λ (o : Outcome). o .store) step-kept)
+      (e ∙ ap (λ (x : Answer). cond (isAccepted x) n (more n)) (d .answer ∙ ap (λ (o : Outcome). o .answer) step-kept))
+
+-- ---- reports filed in order
+filings-none : (t : Tally) → t ≡ filings [] t
+unfolding filings
+filings-none t = refl
+
+filings-one : (r : List ℕ) (t : Tally) → filing r t ≡ filings (r ∷ []) t
+unfolding filings
+filings-one r t = refl
+
+filings-two : (rs qs : List (List ℕ)) (t : Tally) → filings (rs ++ qs) t ≡ filings qs (filings rs t)
+unfolding filings
+filings-two [] qs t = refl
+filings-two (r ∷ rs) qs t = filings-two rs qs (filing r t)
+
+-- ---- what is kept
+kept-none : (kept : List ℕ) → Kept kept 0 []
+kept-none kept = record { upto = omega arith; same = sym (take-nil (length kept)) }
+
+-- what is held is kept of itself
+kept-self : (kept : List ℕ) (held : ℕ) → held ≤ length kept → Kept kept held (take held kept)
+kept-self kept held h =
+    record { upto = h; same = sym (take-all (length kept) (take held kept) (omega (arith, length-take-le held kept h))) }
+
+pub room-count : {kept : List ℕ} {held : ℕ} → Room kept held → held ≡ length (take held kept)
+room-count {kept} {held} r = sym (length-take-le held kept (omega (arith, r .size, r .upto)))
+
+-- one byte more leaves room
+pub room-more : {kept : List ℕ} {held : ℕ} (new : List ℕ) (n b : ℕ) → Room kept held → length new ≡ length kept → Adds kept held new n (b ∷ []) → Room new n
+room-more {kept} {held} new n b r l f =
+    record { size = size; upto = omega (arith, f (take held kept) (kept-self kept held (omega (arith, r .size, r .upto))) .upto) }
+  where
+    size : length new ≡ 513
+    size = l ∙ r .size
+
+-- ---- the start
+pub begun : Begun (record { held = 0; blank = true; refused = 0 })
+begun = record { held = refl; under = λ kept. record { keeps = kept-none kept; blank = sym blank-none }; none = refl }
+
+-- ---- one byte
+module _ {kept : List ℕ} {p : Progress} {store : List ℕ} (b : ℕ) (new : List ℕ) (n : ℕ)
+    (r : Room kept (p .held)) (l : length new ≡ length kept) (f : Adds kept (p .held) new n (b ∷ [])) where
+  -- the report is whole
+  pub byte-end : b ≡ 61 → (t : List ℕ) (m : ℕ) → ((run : List ℕ) → Kept new n run → Filed run store (p .refused) t m)
+      → Feeds (b ∷ []) kept p store new (record { held = 0; blank = true; refused = m }) t
+  byte-end e t m g =
+      record {
+        room = record { size = l ∙ r .size; upto = omega arith };
+        fed = λ run u.
+            record {
+              under = rw (rest-end run b e) (record { keeps = kept-none new; blank = sym blank-none });
+              tally = rw (reports-end run b e) (g (run ++ b ∷ []) (f run (u .keeps)) ∙ filings-one (run ++ b ∷ []) _);
+            };
+      }
+
+  -- it goes on
+  pub byte-on : (b ≡ 61 → ⊥) → (c : Bool) → c ≡ isBlank b
+      → Feeds (b ∷ []) kept p store new (record { held = n; blank = p .blank && c; refused = p .refused }) store
+  byte-on e c q =
+      record {
+        room = room-more new n b r l f;
+        fed = λ run u.
+            record {
+              under = rw (rest-on run b e) (record { keeps = f run (u .keeps); blank = and-eq (u .blank) q ∙ blank-more run b });
+              tally = rw (reports-on run b e) (filings-none _);
+            };
+      }
+
+-- ---- the first i bytes of a piece
+pub record Feeding (s kept : List ℕ) (p : Progress) (store kept′ : List ℕ) (p′ : Progress) (store′ : List ℕ) (i : ℕ) : Type 0 where
+  pub long : length store′ ≡ length store
+  pub feeds : Feeds (take i s) kept p store kept′ p′ store′
+
+pub feeding-none : (s kept : List ℕ) (p : Progress) (store : List ℕ) → Room kept (p .held) → Feeding s kept p store kept p store 0
+feeding-none s kept p store r =
+    record {
+      long = refl;
+      feeds =
+          record {
+            room = r;
+            fed = λ run u.
+                record {
+                  under = rw (rest-none run) u;
+                  tally = rw (reports-none run) (filings-none _);
+                };
+          };
+    }
+
+feeds-two : {s t kept : List ℕ} {p : Progress} {store kept₁ : List ℕ} {p₁ : Progress} {store₁ kept₂ : List ℕ} {p₂ : Progress} {store₂ : List ℕ}
+    → Feeds s kept p store kept₁ p₁ store₁ → Feeds t kept₁ p₁ store₁ kept₂ p₂ store₂ → Feeds (s ++ t) kept p store kept₂ p₂ store₂
+feeds-two {s} {t} v w =
+    record {
+      room = w .room;
+      fed = λ run u.
+          let x = v .fed run u in
+          let y = w .fed (rest run s) (x .under) in
+          record {
+            under = rw (rest-two run s t) (y .under);
+            tally =
+                rw (reports-two run s t)
+                (y .tally ∙ ap (filings (reports (rest run s) t)) (x .tally) ∙ sym (filings-two (reports run s) (reports (rest run s) t) _));
+          };
+    }
+
+pub feeding-more : {s kept : List ℕ} {p : Progress} {store kept₁ : List ℕ} {p₁ : Progress} {store₁ kept₂ : List ℕ} {p₂ : Progress} {store₂ : List ℕ} {i : ℕ}
+    → Feeding s kept p store kept₁ p₁ store₁ i → i < length s → length store₂ ≡ length store₁
+    → Feeds (getD s i 0 ∷ []) kept₁ p₁ store₁ kept₂ p₂ store₂ → Feeding s kept p store kept₂ p₂ store₂ (i + 1)
+feeding-more {s} {kept} {p} {store} {kept₁} {p₁} {store₁} {kept₂} {p₂} {store₂} {i} v h l w =
+    record {
+      long = l ∙ v .long;
+      feeds =
+          subst (λ (t : List ℕ). Feeds t kept p store kept₂ p₂ store₂)
+          (sym (take-suc s i 0 h) ∙ ap (λ (k : ℕ). take k s) (sym (add-one i)))
+          (feeds-two (v .feeds) w);
+    }
+
+pub fed-all : {s kept : List ℕ} {p : Progress} {store kept₁ : List ℕ} {p₁ : Progress} {store₁ : List ℕ} {i : ℕ}
+    → Feeding s kept p store kept₁ p₁ store₁ i → length s ≤ i → Feeds s kept p store kept₁ p₁ store₁
+fed-all {s} {kept} {p} {store} {kept₁} {p₁} {store₁} {i} v h =
+    subst (λ (t : List ℕ). Feeds t kept p store kept₁ p₁ store₁) (take-all i s h) (v .feeds)
+
+-- ---- the tail
+module _ (run : List ℕ) (s : List ℕ) (n : ℕ) (b : Bool) (e : b ≡ allBlank run) where
+  pub tail-blank : b ≡ true → Ended run s n s n
+  tail-blank t = rw (sym e ∙ t) (filings-none _)
+
+  pub tail-filed : b ≡ false → (t : List ℕ) (m : ℕ) → Filed run s n t m → Ended run s n t m
+  tail-filed f t m g = rw (sym e ∙ f) (g ∙ filings-one run _)
+
+-- ---- the whole input: begun, fed and ended, it leaves what its reports leave, filed in order
+whole-input : {p : Progress} {s kept store kept′ : List ℕ} {p′ : Progress} {store′ t : List ℕ} {m : ℕ}
+    → Begun p → Feeds s kept p store kept′ p′ store′ → ((run : List ℕ) → Under run kept′ p′ → Ended run store′ (p′ .refused) t m)
+    → record { store = t; refused = m } ≡ filings (inputReports s) (record { store = store; refused = 0 })
+whole-input {p} {s} {kept} {store} b f e =
+    let g = f .fed [] (b .under kept) in
+    e (rest [] s) (g .under) ∙ ap (filings (tail (rest [] s))) (g .tally) ∙ sym (filings-two (reports [] s) (tail (rest [] s)) _)
+    ∙ ap (λ (n : ℕ). filings (inputReports s) (record { store = store; refused = n })) (b .none)

@@ -1,0 +1,5 @@
+-- Laws of the cut into reports, of filing them, and of a station's line.
+mod Cutting
+mod Filing
+mod Openings
+mod Stations

@@ -1,0 +1,23 @@
+-- What is printed of a station: it is settled, and its day line goes into the text. Assumes nothing.
+use mathlib.Core.Path.{_≡_}
+use mathlib.Core.List.{List, []}
+use Prim.Native.Nat.{ℕ}
+use Rattle.daily.specs.Coded.{rainOf, slotOf}
+use Rattle.dayline_text.specs.Printed.{stationText, Shows}
+use Rattle.rules.specs.Calls.{Answer, refused, accepted, aCell, aDay, settle, day}
+use Rattle.rules.specs.Step.{step}
+
+abbrev pub settled : ℕ → List ℕ → List ℕ
+settled station s = step (settle station) s .store
+
+-- nothing where there is no day line
+abbrev pub lineOf : ℕ → Answer → List ℕ
+lineOf station (aDay d) = stationText station (rainOf (d .rain)) (slotOf (d .warmest)) (slotOf (d .coldest)) (d .read) (d .corrected) (d .filled) (d .missing)
+lineOf station (refused n) = []
+lineOf station accepted = []
+lineOf station (aCell c) = []
+
+-- the store and the first n bytes of the buffer after the station's line was made
+pub record Printed (station : ℕ) (s t buf : List ℕ) (n : ℕ) : Type 0 where
+  pub left : t ≡ settled station s
+  pub shows : Shows buf n (lineOf station (step (day station) (settled station s) .answer))

@@ -1,0 +1,2 @@
+-- Where the program `dayline` stands in its input.
+pub mod Input
