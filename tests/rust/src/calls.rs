@@ -112,13 +112,7 @@ impl Calls for Engine {
         arrays::day(store, station, means, numbers)
     }
 
-    #[cfg(not(feature = "no_bulletin"))]
     fn bulletin(&self, store: &mut [u8], text: &[u8], counts: &mut [u32; 2]) -> u32 {
         arrays::bulletin(store, text, counts)
-    }
-
-    #[cfg(feature = "no_bulletin")]
-    fn bulletin(&self, store: &mut [u8], text: &[u8], counts: &mut [u32; 2]) -> u32 {
-        Reference.bulletin(store, text, counts)
     }
 }

@@ -32,7 +32,6 @@ mod c {
             means: *mut [f64; 6],
             numbers: *mut [i32; 14],
         ) -> u32;
-        #[cfg(not(feature = "no_bulletin"))]
         pub fn esfenruk_bulletin(
             store: *mut u8,
             store_len: usize,
@@ -112,7 +111,6 @@ pub fn day(store: &[u8], station: u32) -> Result<DayLine, Number> {
     answer(number, day_line(&means, &numbers))
 }
 
-#[cfg(not(feature = "no_bulletin"))]
 pub fn bulletin(store: &mut [u8], text: &[u8]) -> Result<Tally, Number> {
     let mut counts = [0; 2];
     let number = arrays::bulletin(store, text, &mut counts);
@@ -187,7 +185,6 @@ pub mod arrays {
     }
 
     /// `counts`: accepted, refused.
-    #[cfg(not(feature = "no_bulletin"))]
     pub fn bulletin(store: &mut [u8], text: &[u8], counts: &mut [u32; 2]) -> u32 {
         unsafe { c::esfenruk_bulletin(store.as_mut_ptr(), store.len(), text.as_ptr(), text.len(), counts) }
     }

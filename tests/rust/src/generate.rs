@@ -200,7 +200,8 @@ impl Scene {
         let mut reports = Vec::new();
         for _ in 0..count {
             let index = rng.below(self.weather.len());
-            let mut groups = self.report(rng, index, slot);
+            let station = self.any_station(rng, index).min(99999);
+            let mut groups = texts::report(rng, &self.opening, station, slot, &mut self.weather[index]);
             match rng.below(12) {
                 0 => texts::damage_groups(rng, &mut groups),
                 1 => texts::soup(rng, &mut groups),
@@ -213,10 +214,39 @@ impl Scene {
         let text = texts::bulletin(rng, &heading, &reports);
         match rng.below(10) {
             0 | 1 => texts::damage(rng, text),
-            2 => texts::pad_bulletin(rng, text),
+            2 => texts::damage_heading(rng, text),
+            3 => texts::pad_bulletin(rng, text),
             _ => text,
         }
     }
+}
+
+/// An input of the program `dayline`: a first line, reports as they come, and a tail.
+pub fn dayline_input(seed: u64) -> Vec<u8> {
+    let rng = &mut Rng::new(seed);
+    let mut scene = Scene::new(rng);
+    let mut input = texts::first_line(rng, &scene.opening);
+    let reports = if rng.chance(20) { 9 * scene.weather.len() } else { rng.below(15) };
+    for i in 0..reports {
+        let text = match rng.below(10) {
+            0 | 1 => scene.any_text(rng),
+            2 => {
+                let mut groups = scene.any_report(rng);
+                texts::near_limit(rng, &mut groups);
+                texts::join_to_limit(rng, &groups)
+            }
+            _ => {
+                let groups = scene.report(rng, i % scene.weather.len(), i / scene.weather.len() % 9);
+                texts::join(rng, &groups)
+            }
+        };
+        input.extend(text);
+        if rng.chance(80) {
+            input.push(b'\n');
+        }
+    }
+    input.extend(texts::tail(rng));
+    input
 }
 
 /// An element or slot: mostly 0 to 8.

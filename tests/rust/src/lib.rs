@@ -6,22 +6,22 @@ pub mod calls;
 pub mod comparison;
 pub mod dayline;
 pub mod generate;
+pub mod mutation;
+pub mod reached;
 pub mod reference;
+pub mod script;
+pub mod sweeps;
 
 #[cfg(feature = "engine")]
 pub mod engine;
+#[cfg(feature = "engine")]
+pub mod fence;
 #[cfg(feature = "mock")]
 pub mod mock;
 
 /// What stands behind the calls of `Engine`.
 #[cfg(feature = "engine")]
-pub const ENGINE: &str = if cfg!(feature = "mock") {
-    "mock"
-} else if cfg!(feature = "no_bulletin") {
-    "libcapi.a, bulletins by the reference"
-} else {
-    "libcapi.a"
-};
+pub const ENGINE: &str = if cfg!(feature = "mock") { "mock" } else { "libcapi.a" };
 
 #[cfg(all(feature = "capi", feature = "mock"))]
 compile_error!("choose one engine: the feature `capi` or the feature `mock`");

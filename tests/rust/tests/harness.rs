@@ -1,6 +1,6 @@
 //! The comparison itself: it passes where both sides are the same, and notices every fault of the mock.
 
-use reading::calls::Engine;
+use reading::calls::{Engine, Reference};
 use reading::comparison::compare;
 use reading::mock::{set_fault, FAULTS};
 
@@ -11,6 +11,12 @@ fn notices_each_fault() {
         let outcome = compare(&Engine, 20_000, 1, &mut |_, _| {}, &mut |_| {});
         assert_eq!(outcome.failed > 0, fault > 0, "{name}: {} failed", outcome.failed);
     }
+}
+
+#[test]
+fn reaches_every_row() {
+    let outcome = compare(&Reference, 300_000, 1, &mut |_, _| {}, &mut |_| {});
+    assert_eq!(outcome.reached.gaps(), []);
 }
 
 #[test]

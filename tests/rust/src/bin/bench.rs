@@ -9,6 +9,10 @@ use std::time::Instant;
 const STATIONS: u32 = 32;
 const DATE: [u32; 3] = [2024, 4, 11];
 
+/// Their places among the works.
+const SINGLE: usize = 0;
+const BULLETINS: usize = 1;
+
 /// One measured piece of work: so many calls, on a copy of a store.
 struct Work {
     name: &'static str,
@@ -36,7 +40,7 @@ fn main() {
         );
         figures.push((plain, engine));
     }
-    let (single, bulletin) = (figures[0], figures[1]);
+    let (single, bulletin) = (figures[SINGLE], figures[BULLETINS]);
     println!(
         "{:52} {:9.1} x  {:9.1} x",
         "reports a second, bulletins to single",

@@ -1,72 +1,164 @@
 //! compare [CALLS [SEED]]: the reference and the engine on calls made from the seed.
-//! compare CALLS SEED trace: prints every step before it is made, for an engine that crashes.
+//! compare CALLS SEED trace: prints every step before it is made, and the number that it gave.
 //! compare CALLS SEED wrong: (mock only) each fault of the mock must be noticed.
+//! compare sweep: all of the small sets of `sweeps`.
+//! compare dayline PROGRAM [INPUTS [SEED]]: the program `dayline` and the reading's, on generated inputs.
+//! compare replay FILE..: the calls written in the files (see `script`).
+//! compare show FILE..: the same, printed as by trace.
+//!
+//! The last line is 'N passed, M failed'; the status is 0 only where none failed.
 
 use reading::calls::Engine;
-use reading::comparison::{compare, Outcome};
-use reading::generate::Step;
-use std::process::ExitCode;
+use reading::comparison::{compare, Heard, Outcome, Pair};
+use reading::dayline::DayLines;
+use reading::fence::Fenced;
+use reading::generate::{dayline_input, Step};
+use reading::reached::{Reached, ROWS};
+use reading::sweeps::SWEEPS;
+use std::fs::File;
+use std::process::{Command, ExitCode};
 
 /// So many differences are printed; all are counted.
 const SHOWN: u64 = 10;
 
 fn main() -> ExitCode {
     let arguments: Vec<String> = std::env::args().skip(1).collect();
+    println!("engine: {}", reading::ENGINE);
+    match arguments.first().map(String::as_str) {
+        Some("sweep") => return end(sweep()),
+        Some("dayline") => return dayline(&arguments[1..]),
+        Some("replay") => return end(replay(&arguments[1..], &mut |_, _| {})),
+        Some("show") => return end(replay(&arguments[1..], &mut |file, heard| print_heard(&file, heard))),
+        _ => {}
+    }
     let number = |at: usize, default: u64| {
         arguments.get(at).map_or(Ok(default), |word| word.parse().map_err(|_| word.clone()))
     };
-    let (Ok(calls), Ok(seed)) = (number(0, 1_000_000), number(1, 1)) else {
-        eprintln!("usage: compare [CALLS [SEED [trace]]]");
-        return ExitCode::from(2);
-    };
-    println!("engine: {}; seed {seed}", reading::ENGINE);
-    let failed = match arguments.get(2).map(String::as_str) {
-        None => side_by_side(calls, seed, &mut |_, _| {}),
-        Some("trace") => side_by_side(calls, seed, &mut print_step),
+    let (Ok(calls), Ok(seed)) = (number(0, 1_000_000), number(1, 1)) else { return usage() };
+    match arguments.get(2).map(String::as_str) {
+        None => end(side_by_side(calls, seed, &mut |_, _| {})),
+        Some("trace") => end(side_by_side(calls, seed, &mut |seed, heard| print_heard(&seed, heard))),
         #[cfg(feature = "mock")]
-        Some("wrong") => faults(calls, seed),
-        Some(_) => {
-            eprintln!("usage: compare [CALLS [SEED [trace]]]");
-            return ExitCode::from(2);
-        }
-    };
+        Some("wrong") => end(faults(calls, seed)),
+        Some(_) => usage(),
+    }
+}
+
+fn usage() -> ExitCode {
+    eprintln!("usage: compare [CALLS [SEED [trace]]] | sweep | dayline PROGRAM [INPUTS [SEED]] | replay FILE.. | show FILE..");
+    ExitCode::from(2)
+}
+
+/// The last line and the status.
+fn end((passed, failed): (u64, u64)) -> ExitCode {
+    println!("{passed} passed, {failed} failed");
     ExitCode::from(u8::from(failed > 0))
 }
 
-fn side_by_side(calls: u64, seed: u64, before: &mut dyn FnMut(u64, &Step)) -> u64 {
+fn side_by_side(calls: u64, seed: u64, hear: &mut dyn FnMut(u64, Heard)) -> (u64, u64) {
     let mut shown = 0;
-    let outcome = compare(&Engine, calls, seed, before, &mut |difference| {
+    let outcome = compare(&Fenced::new(&Engine), calls, seed, hear, &mut |difference| {
         shown += 1;
         if shown <= SHOWN {
             println!("{difference}");
         }
     });
-    print_answers(&outcome);
-    println!("{} passed, {} failed", outcome.passed, outcome.failed);
-    outcome.failed
+    print_reached(&outcome.reached);
+    println!("seed {seed}");
+    (outcome.passed, outcome.failed)
 }
 
-fn print_step(seed: u64, step: &Step) {
-    match step {
-        Step::Lend(buffer) => println!("{seed}: a buffer of {} bytes", buffer.len()),
-        Step::Call(call) => println!("{seed}: {call}"),
-        Step::Damaged { edits, call } => println!("{seed}: {edits:?}, then {call}"),
+fn sweep() -> (u64, u64) {
+    let engine = Fenced::new(&Engine);
+    let mut outcome = Outcome::default();
+    for (name, sweep) in SWEEPS {
+        let before = outcome.passed;
+        let mut pair = Pair::new(&engine);
+        let mut difference = None;
+        sweep(&mut |step| {
+            if difference.is_none() {
+                difference = outcome.step(&mut pair, &step).err();
+            }
+        });
+        println!("{name}: {} calls", outcome.passed - before);
+        if let Some(difference) = difference {
+            println!("DIFFERENCE\n{difference}");
+        }
+    }
+    (outcome.passed, outcome.failed)
+}
+
+/// Runs the program on each input and compares what it prints.
+fn dayline(arguments: &[String]) -> ExitCode {
+    let number = |at: usize, default: u64| arguments.get(at).map_or(Ok(default), |word| word.parse());
+    let (Some(program), Ok(inputs), Ok(seed)) = (arguments.first(), number(1, 1000), number(2, 1)) else {
+        return usage();
+    };
+    let file = std::env::temp_dir().join(format!("dayline-{}", std::process::id()));
+    let (mut passed, mut failed) = (0, 0);
+    for seed in seed..seed + inputs {
+        let input = dayline_input(seed);
+        std::fs::write(&file, &input).expect("a file for the input");
+        let mut lines = DayLines::default();
+        lines.feed(&input);
+        let expected = lines.finish();
+        let from = File::open(&file).expect("the input");
+        let output = Command::new(program).stdin(from).output().expect("the program runs");
+        if output.status.success() && output.stdout == expected.as_bytes() {
+            passed += 1;
+            continue;
+        }
+        failed += 1;
+        if failed <= SHOWN {
+            let printed = String::from_utf8_lossy(&output.stdout);
+            println!("DIFFERENCE in seed {seed}, {}\n{}", output.status, input.escape_ascii());
+            println!("  expected:\n{expected}  printed:\n{printed}");
+        }
+    }
+    let _ = std::fs::remove_file(&file);
+    end((passed, failed))
+}
+
+fn replay(files: &[String], hear: &mut dyn FnMut(&str, Heard)) -> (u64, u64) {
+    let engine = Fenced::new(&Engine);
+    let mut outcome = Outcome::default();
+    for file in files {
+        let Ok(script) = std::fs::read(file) else {
+            println!("{file}: cannot be read");
+            outcome.failed += 1;
+            continue;
+        };
+        let steps = reading::script::steps(&script);
+        if let Err(difference) = outcome.steps(&engine, &steps, &mut |heard| hear(file, heard)) {
+            println!("DIFFERENCE in {file}, {difference}");
+        }
+    }
+    (outcome.passed, outcome.failed)
+}
+
+fn print_heard(from: &dyn std::fmt::Display, heard: Heard) {
+    match heard {
+        Heard::Step(Step::Lend(buffer)) => println!("{from}: a buffer of {} bytes", buffer.len()),
+        Heard::Step(Step::Call(call)) => println!("{from}: {call}"),
+        Heard::Step(Step::Damaged { edits, call }) => println!("{from}: {edits:?}, then {call}"),
+        Heard::Number(number) => println!("    {number}"),
     }
 }
 
-/// How often each call gave each answer, so that it can be seen what the calls reached.
-fn print_answers(outcome: &Outcome) {
-    for name in ["open", "file", "settle", "cell", "day", "bulletin"] {
-        print!("{name:8}");
-        for ((_, number), count) in outcome.answers.iter().filter(|((call, _), _)| *call == name) {
-            print!("  {number}: {count}");
+/// A row for each call with its answers, then for the places where a rule turns, so that gaps show.
+fn print_reached(reached: &Reached) {
+    for &(row, numbers) in ROWS {
+        print!("{row:42}");
+        for &number in numbers {
+            print!("  {number}: {}", reached.count(row, number));
         }
         println!();
     }
+    println!("never reached: {:?}", reached.gaps());
 }
 
 #[cfg(feature = "mock")]
-fn faults(calls: u64, seed: u64) -> u64 {
+fn faults(calls: u64, seed: u64) -> (u64, u64) {
     use reading::mock::{set_fault, FAULTS};
     let (mut passed, mut failed) = (0, 0);
     for (fault, name) in FAULTS.iter().enumerate() {
@@ -86,6 +178,5 @@ fn faults(calls: u64, seed: u64) -> u64 {
             failed += 1;
         }
     }
-    println!("{passed} passed, {failed} failed");
-    failed
+    (passed, failed)
 }

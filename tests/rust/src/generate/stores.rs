@@ -2,7 +2,7 @@
 
 use super::rng::Rng;
 use super::texts::{PRESSURES, TEMPERATURES};
-use crate::reference::{self, calendar::Date, store::length};
+use crate::reference::{self, calendar::Date, store::can_open, store::length};
 
 /// The arguments of an open call but its buffer.
 #[derive(Clone, Debug)]
@@ -44,6 +44,11 @@ impl Opening {
         let stations = good_stations(rng, n);
         let rows = (0..n).map(|_| rng.below(2) as u16).collect();
         Opening { year, month, day, stations, rows }
+    }
+
+    /// A buffer of the right length can be opened so.
+    pub fn is_good(&self) -> bool {
+        self.has_slots() && can_open(length(self.stations.len()), &self.stations, &self.rows)
     }
 
     /// The date is one that has slots.

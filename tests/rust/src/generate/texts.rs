@@ -2,7 +2,7 @@
 
 use super::rng::Rng;
 use super::stores::Opening;
-use crate::reference::calendar::Date;
+use crate::reference::{calendar::Date, store::length};
 
 /// Limits of the range step, and the ends of codes.
 pub const TEMPERATURES: [i32; 18] =
@@ -487,6 +487,24 @@ pub fn bulletin(rng: &mut Rng, heading: &[u8], reports: &[Vec<Vec<u8>>]) -> Vec<
     text
 }
 
+/// One edit in the heading of a bulletin, which is cut short at times.
+pub fn damage_heading(rng: &mut Rng, text: Vec<u8>) -> Vec<u8> {
+    let mut rest = text;
+    let mut heading: Vec<u8> = rest.drain(..rest.len().min(12)).collect();
+    match rng.below(4) {
+        0 => heading.truncate(rng.below(heading.len())),
+        1 => {
+            let at = rng.below(heading.len());
+            heading[at] = b'=';
+        }
+        _ => heading = damage(rng, heading),
+    }
+    if rng.chance(70) {
+        heading.append(&mut rest);
+    }
+    heading
+}
+
 /// The bulletin made about as long as one may be, by blanks or by its own reports.
 pub fn pad_bulletin(rng: &mut Rng, mut text: Vec<u8>) -> Vec<u8> {
     let wanted = rng.pick(&[16380, 16383, 16384, 16384, 16385, 16400, 20000]);
@@ -499,4 +517,59 @@ pub fn pad_bulletin(rng: &mut Rng, mut text: Vec<u8>) -> Vec<u8> {
     let pad = vec![b' '; wanted.saturating_sub(text.len())];
     text.splice(at..at, pad);
     text
+}
+
+// ---- Inputs of the program ----
+
+/// The first line: the opening, at times untidy or wrong.
+pub fn first_line(rng: &mut Rng, opening: &Opening) -> Vec<u8> {
+    let mut opening = opening.clone();
+    if rng.chance(10) {
+        opening.spoil(rng, &mut length(1));
+    }
+    let Opening { year, month, day, stations, rows } = opening;
+    let pairs = stations.iter().zip(rows).flat_map(|(&station, row)| [station, row.into()]);
+    let mut fields: Vec<String> =
+        [year, month, day].into_iter().chain(pairs).map(|n| n.to_string()).collect();
+    if rng.chance(10) {
+        let at = rng.below(fields.len());
+        match rng.below(5) {
+            0 => fields.truncate(at),
+            1 => fields.insert(at, rng.below(40).to_string()),
+            2 => fields[at] = rng.pick(&["-1", "+1", "x", "1.0", "4294967297", "65536", "0x1"]).to_string(),
+            3 => fields[at] = "9".repeat(rng.pick(&[10, 20, 40, 600])),
+            _ => fields[at] = "0".repeat(rng.pick(&[1, 30, 600])) + &fields[at],
+        }
+    }
+    let untidy = rng.chance(15);
+    let mut line = Vec::new();
+    for field in fields {
+        let gap = if untidy { rng.pick(&[" ", "  ", "\r", " \r "]) } else { " " };
+        if untidy || !line.is_empty() {
+            line.extend(gap.bytes());
+        }
+        line.extend(field.bytes());
+    }
+    if rng.chance(5) {
+        line = damage(rng, line);
+    }
+    line.extend(rng.pick(&["\n", "\n", "\n", "\n", "\n", "\n", "\r\n", " \n", ""]).bytes());
+    line
+}
+
+/// What may stand after the last report.
+pub fn tail(rng: &mut Rng) -> Vec<u8> {
+    match rng.below(10) {
+        0..=3 => Vec::new(),
+        4 | 5 => blanks(rng),
+        6 => vec![rng.pick(b" \r\n"); rng.pick(&[511, 512, 513, 600, 70_000])],
+        7 => [blanks(rng), b"AAXX".to_vec(), blanks(rng)].concat(),
+        8 => {
+            let mut tail = vec![b' '; rng.pick(&[510, 511, 512, 513, 600, 70_000])];
+            let at = rng.below(tail.len());
+            tail[at] = rng.pick(b"x0=\t\0");
+            tail
+        }
+        _ => vec![any_byte(rng)],
+    }
 }

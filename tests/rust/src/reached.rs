@@ -1,0 +1,294 @@
+//! What the calls of a run reached: every answer of every call, and the places where a rule turns.
+//! A row for each, with the numbers that must come up in it; one that never did shows as 0.
+
+use crate::generate::stores::Opening;
+use crate::generate::{Answer, Call, Step};
+use crate::reference::calendar::Date;
+use crate::reference::report::{self, groups, is_blank, Observation};
+use crate::reference::store::{self, length};
+use std::collections::BTreeMap;
+
+/// The rows: the answers of the six calls, then the rest.
+pub const ROWS: &[(&str, &[u32])] = &[
+    ("open", &[0, 10]),
+    ("file", &[0, 1, 2, 3, 4, 5, 6, 7, 8, 9]),
+    ("settle", &[0, 6, 9]),
+    ("cell", &[0, 6, 9, 11, 12]),
+    ("day", &[0, 6, 9, 11]),
+    ("bulletin", &[0, 1, 3, 4, 9]),
+    // What alone is wrong with a refused opening, as `opening_faults` has them.
+    ("open: the one fault", &[0, 1, 2, 3, 4, 5, 6]),
+    ("stations of a store", &[1, 2, 31, 32]),
+    // The one field that makes a store unsound.
+    ("unsound: header number", &[0, 1, 2, 3, 4, 5, 6, 7]),
+    ("unsound: entry's number, row, settled", &[0, 1, 2]),
+    ("unsound: head's filed, iR, tR, dd", &[0, 1, 2, 3]),
+    ("unsound: raw cell's state, flag, value", &[0, 1, 2]),
+    ("unsound: checked cell's state, flag, value", &[0, 1, 2]),
+    // 0 none, 1 less than a header, 2 too short, 3 too long for its n.
+    ("unsound: length", &[0, 1, 2, 3]),
+    ("file: bytes of an accepted text", &[511, 512]),
+    ("file: bytes of a text refused 1", &[0, 1, 512, 513]),
+    ("file: slot", &[0, 1, 2, 3, 4, 5, 6, 7, 8]),
+    ("file: slot refused 8", &[0, 1, 2, 3, 4, 5, 6, 7, 8]),
+    ("file: NIL where filed is", &[0, 1]),
+    ("file: section", &[2, 3, 4, 5]),
+    ("file: iw with ff", &[0, 1, 3, 4]),
+    ("file: iw with 00fff", &[0, 1, 3, 4]),
+    ("file: R from section", &[0, 1, 3]),
+    ("file: in a 55 run, first digit", &[0, 1, 2, 3, 4, 5, 6]),
+    ("T read", &[0, 1]),
+    ("D read", &[0, 1]),
+    ("P read", &[0, 1]),
+    ("W read", &[0, 1]),
+    ("C read", &[0, 1]),
+    ("V read", &[0, 1]),
+    ("R read", &[0, 1]),
+    ("X read", &[0, 1]),
+    ("M read", &[0, 1]),
+    ("settle: T's state", &[0, 1, 2, 3]),
+    ("settle: D's state", &[0, 1, 3]),
+    ("settle: P's state", &[0, 1, 3]),
+    ("settle: W's state", &[0, 1, 3]),
+    ("settle: C's state", &[0, 1]),
+    ("settle: V's state", &[0, 1]),
+    ("settle: R's state", &[0, 1]),
+    ("settle: X's state", &[0, 1]),
+    ("settle: M's state", &[0, 1]),
+    ("settle: T's flag", &[0, 1, 3, 4]),
+    ("settle: D's flag", &[0, 1, 2, 3, 4]),
+    ("settle: P's flag", &[0, 1, 3, 4]),
+    ("settle: W's flag", &[0, 1, 4]),
+    ("settle: C's flag", &[0]),
+    ("settle: V's flag", &[0]),
+    ("settle: R's flag", &[0, 1, 4]),
+    ("settle: X's flag", &[0, 1, 4]),
+    ("settle: M's flag", &[0, 1, 4]),
+    ("day: T's mean", &[0, 1, 2]),
+    ("day: D's mean", &[0, 1, 2]),
+    ("day: P's mean", &[0, 1, 2]),
+    ("day: W's mean", &[0, 1, 2]),
+    ("day: C's mean", &[0, 1, 2]),
+    ("day: vapour's mean", &[0, 1, 2]),
+    ("day: rain", &[0, 1]),
+    // 0 absent, else one more than the slot.
+    ("day: warmest", &[0, 1, 2, 3, 4, 5, 6, 7, 8]),
+    ("day: coldest", &[0, 1, 2, 3, 4, 5, 6, 7, 8]),
+    ("bulletin: bytes", &[0, 1, 16383, 16384, 16385]),
+    // 0 by the end, 1 by `=`, in its first or second group.
+    ("bulletin: heading cut", &[0, 1]),
+    // 0 none, 1 blank, 2 a report refused.
+    ("bulletin: tail", &[0, 1, 2]),
+    ("bulletin: bytes of a report rebuilt", &[11, 511, 512, 513]),
+    // 0 none, 1 some, 2 all.
+    ("bulletin: accepted", &[0, 1, 2]),
+];
+
+const READ: usize = 24;
+const STATE: usize = READ + 9;
+const FLAG: usize = STATE + 9;
+const MEAN: usize = FLAG + 9;
+
+/// How often each number came up in each row.
+#[derive(Default)]
+pub struct Reached(BTreeMap<(&'static str, u32), u64>);
+
+impl Reached {
+    pub fn count(&self, row: &'static str, number: u32) -> u64 {
+        self.0.get(&(row, number)).copied().unwrap_or(0)
+    }
+
+    /// The rows' numbers that never came up.
+    pub fn gaps(&self) -> Vec<(&'static str, u32)> {
+        let wanted = ROWS.iter().flat_map(|&(row, numbers)| numbers.iter().map(move |&number| (row, number)));
+        wanted.filter(|&(row, number)| self.count(row, number) == 0).collect()
+    }
+
+    /// A call, the buffer after it and the answer.
+    pub fn note(&mut self, step: &Step, store: &[u8], answer: &Answer) {
+        let (edits, call) = match step {
+            Step::Lend(_) => return,
+            Step::Call(call) => (&[] as &[_], call),
+            Step::Damaged { edits, call } => (edits.as_slice(), call),
+        };
+        self.add(call.name(), answer.number);
+        match (call, answer.number) {
+            (Call::Open(opening), number) => self.open(opening, store, number),
+            (_, 9) => self.unsound(store, edits),
+            (Call::File { text }, number) => self.file(text, store, number),
+            (Call::Settle { station }, 0) => self.settle(*station, store),
+            (Call::Day { .. }, 0) => self.day(answer),
+            (Call::Bulletin { text }, number) => self.bulletin(text, number, answer.counts),
+            _ => {}
+        }
+    }
+
+    fn add(&mut self, row: &'static str, number: u32) {
+        *self.0.entry((row, number)).or_default() += 1;
+    }
+
+    fn open(&mut self, opening: &Opening, store: &[u8], number: u32) {
+        if number == 0 {
+            return self.add("stations of a store", opening.stations.len() as u32);
+        }
+        let faults = opening_faults(opening, store.len());
+        let mut wrong = (0..).zip(faults).filter(|&(_, fault)| fault);
+        if let (Some((which, _)), None) = (wrong.next(), wrong.next()) {
+            self.add("open: the one fault", which);
+        }
+    }
+
+    fn unsound(&mut self, store: &[u8], edits: &[(usize, u8)]) {
+        let n = store.get(1).map_or(0, |&n| usize::from(n));
+        if store.len() < 16 {
+            self.add("unsound: length", (!store.is_empty()).into());
+        } else if store.len() != length(n) && edits.is_empty() {
+            self.add("unsound: length", if store.len() < length(n) { 2 } else { 3 });
+        }
+        // The buffer before the edits had the length of a store.
+        let Some(&(at, _)) = edits.first() else { return };
+        let entries = 16 + 8 * (store.len() / 692);
+        let (row, field) = match at {
+            0..16 => ("unsound: header number", at / 2),
+            _ if at < entries => {
+                ("unsound: entry's number, row, settled", [0, 0, 0, 0, 1, 1, 2, 2][(at - 16) % 8])
+            }
+            _ => match (at - entries) % 684 {
+                head @ 0..36 => ("unsound: head's filed, iR, tR, dd", head % 4),
+                raw @ 36..360 => ("unsound: raw cell's state, flag, value", [0, 1, 2, 2][raw % 4]),
+                checked => ("unsound: checked cell's state, flag, value", [0, 1, 2, 2][checked % 4]),
+            },
+        };
+        self.add(row, field as u32);
+    }
+
+    fn file(&mut self, text: &[u8], store: &[u8], number: u32) {
+        let len = text.len() as u32;
+        match number {
+            0 => self.add("file: bytes of an accepted text", len),
+            1 => self.add("file: bytes of a text refused 1", len),
+            _ => {}
+        }
+        let (Ok(report), 0 | 8) = (report::read(text), number) else { return };
+        let (Ok(index), Some(slot)) =
+            (store::find(store, report.station), store::date(store).slot(report.yy, report.gg))
+        else {
+            return;
+        };
+        match report.observation {
+            None => self
+                .add("file: NIL where filed is", store::head(store::block(store, index), slot).filed.into()),
+            Some(_) if number == 8 => self.add("file: slot refused 8", slot as u32),
+            Some(found) => {
+                self.add("file: slot", slot as u32);
+                self.observation(report.iw, &found);
+                self.sections(text);
+                let cells = store::raw_sheet(store::block(store, index))[slot];
+                for (element, cell) in cells.iter().enumerate() {
+                    self.add(ROWS[READ + element].0, cell.state.into());
+                }
+            }
+        }
+    }
+
+    fn observation(&mut self, iw: u8, found: &Observation) {
+        let row = if found.strong_wind.is_some() { "file: iw with 00fff" } else { "file: iw with ff" };
+        self.add(row, iw.into());
+        let rain = match (found.section1[6], found.section3[6]) {
+            (Some(_), _) => 1,
+            (None, Some(_)) => 3,
+            _ => 0,
+        };
+        self.add("file: R from section", rain);
+    }
+
+    /// The sections of an accepted report, and the groups of its 55 runs.
+    fn sections(&mut self, text: &[u8]) {
+        let (mut section, mut run) = (1, false);
+        for group in groups(&text[..text.len() - 1]).skip(5) {
+            let opens = match group {
+                b"333" => Some(3),
+                b"444" => Some(4),
+                b"555" => Some(5),
+                _ => (section == 1 && group.starts_with(b"222")).then_some(2),
+            };
+            if let Some(opened) = opens {
+                section = opened;
+                self.add("file: section", section);
+            } else if section == 3 {
+                match group[0] {
+                    b'7'..=b'9' => run = false,
+                    digit @ b'0'..=b'6' if run => {
+                        self.add("file: in a 55 run, first digit", (digit - b'0').into())
+                    }
+                    _ => run |= group.starts_with(b"55"),
+                }
+            }
+        }
+    }
+
+    fn settle(&mut self, station: u32, store: &[u8]) {
+        let Ok(index) = store::find(store, station) else { return };
+        for cells in store::checked_sheet(store::block(store, index)) {
+            for (element, cell) in cells.iter().enumerate() {
+                self.add(ROWS[STATE + element].0, cell.state.into());
+                self.add(ROWS[FLAG + element].0, cell.flag.into());
+            }
+        }
+    }
+
+    fn day(&mut self, answer: &Answer) {
+        let numbers = answer.numbers.map(|number| (number + 1) as u32);
+        for mean in 0..6 {
+            self.add(ROWS[MEAN + mean].0, numbers[mean] - 1);
+        }
+        self.add("day: rain", numbers[6] - 1);
+        self.add("day: warmest", numbers[8]);
+        self.add("day: coldest", numbers[9]);
+    }
+
+    fn bulletin(&mut self, text: &[u8], number: u32, counts: [u32; 2]) {
+        self.add("bulletin: bytes", text.len() as u32);
+        let end = text.iter().position(|&byte| byte == b'=');
+        if number == 3 && text.starts_with(b"AAXX") && end.unwrap_or(text.len()) < 10 {
+            self.add("bulletin: heading cut", end.is_some().into());
+        }
+        if number != 0 {
+            return;
+        }
+        let mut pieces = text.split(|&byte| byte == b'=').peekable();
+        let mut behind = 2;
+        while let Some(piece) = pieces.next() {
+            if pieces.peek().is_some() {
+                // `AAXX YYGGiw`, a space and a group for each, and `=`.
+                let bytes: usize = groups(piece).skip(behind).map(|group| 1 + group.len()).sum();
+                self.add("bulletin: bytes of a report rebuilt", bytes as u32 + 11);
+            } else {
+                let blank = piece.iter().all(|&byte| is_blank(byte)) || behind == 2;
+                self.add("bulletin: tail", if piece.is_empty() { 0 } else { 1 + u32::from(!blank) });
+            }
+            behind = 0;
+        }
+        let kind = match counts {
+            [0, _] => 0,
+            [_, 0] => 2,
+            _ => 1,
+        };
+        self.add("bulletin: accepted", kind);
+    }
+}
+
+/// What refusal 10 names, each by itself: the number of stations, the lists' lengths, the buffer's
+/// length, the date, a row, a number out of range, numbers that do not ascend.
+fn opening_faults(opening: &Opening, len: usize) -> [bool; 7] {
+    let Opening { year, month, day, stations, rows } = opening;
+    [
+        !(1..=32).contains(&stations.len()),
+        rows.len() != stations.len(),
+        len != length(stations.len()),
+        Date::new(*year, *month, *day).is_none(),
+        rows.iter().any(|&row| row > 1),
+        stations.iter().any(|number| !(1..=99999).contains(number)),
+        stations.windows(2).any(|pair| pair[0] >= pair[1]),
+    ]
+}

@@ -1,0 +1,352 @@
+//! All of a small set each, where a generated run takes samples: every value of a code, every byte of a
+//! store, every date, every short list of groups. The store is mostly that of 2024-04-11 and station 40001.
+
+use crate::generate::stores::{Edits, Opening};
+use crate::generate::{Call, Step};
+use crate::reference::{self, store::length};
+
+/// Steps, one after the other.
+type Take<'a> = &'a mut dyn FnMut(Step);
+
+type Sweep = fn(Take);
+
+pub const SWEEPS: [(&str, Sweep); 16] = [
+    ("each byte of a store, each value", bytes_of_a_store),
+    ("dates", dates),
+    ("YY, GG, iw", headings),
+    ("temperature groups", temperatures),
+    ("pressure groups", pressures),
+    ("rain groups", rains),
+    ("iRixhVV, Nddff, 00fff", indicators),
+    ("each value through the range step", range),
+    ("three values through the time and fill steps", neighbours),
+    ("dd with W, X of slot 4 with M of slot 0", internal),
+    ("rain by tR and what is missing", rain_totals),
+    ("dew points", dew_points),
+    ("cells", cells),
+    ("stations by the numbers in other places", other_numbers),
+    ("short lists of groups", short_lists),
+    ("one edit of a text", edits_of_texts),
+];
+
+const STATION: u32 = 40001;
+/// A settled mark's low byte, and the start of the heads, in a store of one station.
+const SETTLED: usize = 23;
+const HEADS: usize = 24;
+
+fn raw(slot: usize, element: usize) -> usize {
+    60 + 36 * slot + 4 * element
+}
+
+fn checked(slot: usize, element: usize) -> usize {
+    384 + 36 * slot + 4 * element
+}
+
+/// A cell that is read, or missing.
+fn cell(at: usize, value: Option<i32>) -> Edits {
+    let [high, low] = (value.unwrap_or(0) as i16).to_be_bytes();
+    vec![(at, value.is_some().into()), (at + 1, 0), (at + 2, high), (at + 3, low)]
+}
+
+fn opened(date: [u32; 3], row: u16) -> Vec<u8> {
+    let mut store = vec![0; length(1)];
+    let [year, month, day] = date;
+    reference::open(&mut store, year, month, day, &[STATION], &[row]).expect("a good opening");
+    store
+}
+
+fn lend(take: Take) {
+    take(Step::Lend(opened([2024, 4, 11], 0)));
+}
+
+/// Files a text after slot 0 is made free.
+fn file_anew(take: Take, text: Vec<u8>) {
+    take(Step::Damaged { edits: vec![(HEADS, 0)], call: Call::File { text } });
+}
+
+/// Every string of so many of these characters.
+fn strings(characters: &'static [u8], len: u32) -> impl Iterator<Item = String> {
+    let base = characters.len();
+    (0..base.pow(len)).map(move |mut number| {
+        let mut string = String::new();
+        for _ in 0..len {
+            string.push(characters[number % base] as char);
+            number /= base;
+        }
+        string
+    })
+}
+
+const FIGURES: &[u8] = b"0123456789/";
+
+fn bytes_of_a_store(take: Take) {
+    let mut store = opened([2024, 4, 11], 0);
+    let text = b"AAXX 11061 40001 12360 62704 10103 20071 40132 60042 333 10120 20080=";
+    reference::file(&mut store, text).expect("a good report");
+    reference::settle(&mut store, STATION).expect("a station");
+    for at in 0..store.len() {
+        take(Step::Lend(store.clone()));
+        for byte in 0..=255 {
+            take(Step::Damaged { edits: vec![(at, byte)], call: Call::Day { station: STATION } });
+        }
+    }
+}
+
+fn dates(take: Take) {
+    let open =
+        |year, month, day| Call::Open(Opening { year, month, day, stations: vec![STATION], rows: vec![0] });
+    let nil = |day: u32, hour: u32| Call::File { text: format!("AAXX {day:02}{hour:02}1 40001 NIL=").into() };
+    lend(take);
+    for year in 1999..=2100 {
+        for month in 0..=13 {
+            for day in 0..=32 {
+                take(Step::Call(open(year, month, day)));
+                if day >= 28 || day == 1 {
+                    for next in [1, 28, 29, 30, 31] {
+                        take(Step::Call(nil(next, 3)));
+                        take(Step::Call(nil(next, 9)));
+                    }
+                }
+            }
+        }
+    }
+}
+
+fn headings(take: Take) {
+    lend(take);
+    for number in 0..100_000 {
+        let text = format!("AAXX {number:05} 40001 NIL=").into_bytes();
+        take(Step::Call(Call::File { text }));
+        if number % 7 == 0 {
+            let text = format!("AAXX {number:05} 40001 NIL=").into_bytes();
+            take(Step::Call(Call::Bulletin { text }));
+        }
+    }
+}
+
+fn temperatures(take: Take) {
+    lend(take);
+    for s in strings(FIGURES, 4) {
+        file_anew(take, format!("AAXX 11061 40001 ///// ///// 1{s} 2{s} 333 1{s} 2{s}=").into());
+    }
+}
+
+fn pressures(take: Take) {
+    lend(take);
+    for s in strings(FIGURES, 4) {
+        file_anew(take, format!("AAXX 11061 40001 ///// ///// 4{s}=").into());
+    }
+}
+
+fn rains(take: Take) {
+    lend(take);
+    for s in strings(FIGURES, 4) {
+        file_anew(take, format!("AAXX 11061 40001 ///// ///// 6{s}=").into());
+        file_anew(take, format!("AAXX 11061 40001 ///// ///// 333 6{s} 60012=").into());
+    }
+}
+
+fn indicators(take: Take) {
+    lend(take);
+    for s in strings(FIGURES, 3) {
+        let (first, two) = s.split_at(1);
+        file_anew(take, format!("AAXX 11061 40001 {first}//{two} {s}04=").into());
+        for iw in [0, 1, 3, 4] {
+            file_anew(take, format!("AAXX 1106{iw} 40001 ///// 001{two}=").into());
+            file_anew(take, format!("AAXX 1106{iw} 40001 ///// 00199 00{s}=").into());
+        }
+    }
+}
+
+/// The same value in all elements of slot 0.
+fn range(take: Take) {
+    for (month, row) in [(3, 0), (4, 0), (9, 1), (10, 1)] {
+        take(Step::Lend(opened([2024, month, 11], row)));
+        for value in -32768..=32767 {
+            let edits = (0..9).flat_map(|element| cell(raw(0, element), Some(value))).collect();
+            take(Step::Damaged { edits, call: Call::Settle { station: STATION } });
+        }
+    }
+}
+
+/// Three values of an element in a row, in slots 0 to 2 and 6 to 8, one of them missing at times.
+fn neighbours(take: Take) {
+    let around = |middle: i32| {
+        let steps = [-201, -151, -150, -101, -100, -99, -51, -50, -49, -1, 0, 1, 2, 50, 99, 100, 101, 202];
+        let present = steps.map(|step| Some(middle + step));
+        present.into_iter().chain([None]).collect::<Vec<_>>()
+    };
+    lend(take);
+    for (element, middle) in [(0, 0), (0, 60), (1, 0), (2, 10000), (3, 200), (4, 4)] {
+        let values = around(middle);
+        for a in &values {
+            for v in &values {
+                for b in &values {
+                    let three = [(0, a), (1, v), (2, b), (6, a), (7, v), (8, b)];
+                    let edits = three
+                        .into_iter()
+                        .flat_map(|(slot, &value)| cell(raw(slot, element), value))
+                        .collect();
+                    take(Step::Damaged { edits, call: Call::Settle { station: STATION } });
+                }
+            }
+        }
+    }
+}
+
+fn internal(take: Take) {
+    lend(take);
+    for dd in 0..=100 {
+        for value in [-1, 0, 1, 2, 750, 751] {
+            let mut edits = cell(raw(0, 3), Some(value));
+            edits.push((HEADS + 3, dd));
+            take(Step::Damaged { edits, call: Call::Settle { station: STATION } });
+        }
+    }
+    for x in -60..=60 {
+        for m in [-51, -50, -1, 0, 1, 49, 50] {
+            for slots in [(4, 0), (0, 4), (3, 0), (4, 1)] {
+                let mut edits = cell(raw(slots.0, 7), Some(x));
+                edits.extend(cell(raw(slots.1, 8), Some(m)));
+                take(Step::Damaged { edits, call: Call::Settle { station: STATION } });
+            }
+            lend(take);
+        }
+    }
+}
+
+/// tR of slots 2, 4, 6 and 8, and which R are there.
+fn rain_totals(take: Take) {
+    lend(take);
+    for times in strings(b"0123456789", 4) {
+        for present in 0..16 {
+            let mut edits = vec![(SETTLED, 1)];
+            for (i, time) in times.bytes().enumerate() {
+                let slot = 2 * i + 2;
+                edits.push((HEADS + 4 * slot + 2, time - b'0'));
+                edits.extend(cell(checked(slot, 6), (present >> i & 1 == 1).then_some(1 << (3 * i))));
+            }
+            take(Step::Damaged { edits, call: Call::Day { station: STATION } });
+        }
+    }
+}
+
+/// The same D in all slots, then one that differs.
+fn dew_points(take: Take) {
+    lend(take);
+    for value in (-600..=600).chain([-32767, 32767]) {
+        for other in [value, 0] {
+            let mut edits = vec![(SETTLED, 1)];
+            edits.extend((0..9).flat_map(|slot| cell(checked(slot, 1), Some(value))));
+            edits.extend(cell(checked(7, 1), Some(other)));
+            take(Step::Damaged { edits, call: Call::Day { station: STATION } });
+        }
+    }
+}
+
+/// Each element and slot with each state and flag, and each value somewhere.
+fn cells(take: Take) {
+    lend(take);
+    let mut look = |element: usize, slot: usize, state: u8, flag: u8, value: i32| {
+        let mut edits = cell(checked(slot, element), Some(value));
+        edits[0].1 = state;
+        edits[1].1 = flag;
+        edits.push((SETTLED, 1));
+        let (element, slot) = (element as u32, slot as u32);
+        take(Step::Damaged { edits, call: Call::Cell { station: STATION, element, slot } });
+    };
+    for element in 0..9 {
+        for slot in 0..9 {
+            for state in 0..5 {
+                for flag in 0..6 {
+                    look(element, slot, state, flag, 0);
+                    look(element, slot, state, flag, -100 - (9 * slot + element) as i32);
+                }
+            }
+        }
+    }
+    for value in -32768..=32767 {
+        look(value as u32 as usize % 9, value as u32 as usize / 9 % 9, 1, 0, value);
+    }
+}
+
+/// A station's number is looked for in the list alone: those that any four bytes of the store make are absent.
+fn other_numbers(take: Take) {
+    let mut store = opened([2024, 4, 11], 0);
+    for (at, byte) in store[HEADS..].iter_mut().enumerate() {
+        // Heads and cells that hold numbers beyond the station's, and are sound.
+        *byte = [0, 1, 2, 3][at % 4];
+    }
+    for at in (raw(0, 0)..store.len()).step_by(4) {
+        store[at..at + 4].copy_from_slice(&[1, 0, 1, at as u8]);
+    }
+    take(Step::Lend(store.clone()));
+    for number in store.windows(4).map(|four| u32::from_be_bytes([four[0], four[1], four[2], four[3]])) {
+        take(Step::Call(Call::Settle { station: number }));
+        take(Step::Call(Call::Cell { station: number, element: 0, slot: 0 }));
+    }
+}
+
+/// Up to five groups from the start, and up to four after Nddff.
+fn short_lists(take: Take) {
+    const FIRST: [&str; 11] =
+        ["AAXX", "11061", "40001", "00000", "NIL", "333", "22200", "1234/", "BBXX", "1234", "123456"];
+    const LATER: [&str; 22] = [
+        "AAXX", "NIL", "222", "22200", "333", "444", "555", "00120", "00///", "01234", "/0000", "10123",
+        "11045", "20071", "30000", "55123", "5/512", "60012", "6990/", "7////", "80000", "91112",
+    ];
+    lend(take);
+    for groups in lists(&FIRST, 5) {
+        file_anew(take, format!("{}=", groups.join(" ")).into());
+    }
+    for groups in lists(&LATER, 3) {
+        file_anew(take, format!("AAXX 11061 40001 12360 62799 {}=", groups.join(" ")).into());
+        file_anew(take, format!("AAXX 11061 40001 12360 62704 333 55300 {}=", groups.join(" ")).into());
+        file_anew(take, format!("AAXX 11061 40001 12360 62704 10001 {}=", groups.join(" ")).into());
+    }
+}
+
+/// Every list of at most so many of the words.
+fn lists<'a>(words: &'a [&'a str], most: u32) -> impl Iterator<Item = Vec<&'a str>> {
+    (0..=most).flat_map(move |len| {
+        (0..words.len().pow(len)).map(move |mut number| {
+            let mut list = Vec::new();
+            for _ in 0..len {
+                list.push(words[number % words.len()]);
+                number /= words.len();
+            }
+            list
+        })
+    })
+}
+
+/// A report and a bulletin with a byte replaced, put in or left out, and cut short.
+fn edits_of_texts(take: Take) {
+    let report = b"\nAAXX 11061 40001 12360 62799 00120 10103 22212 /////\r333 10120 55300 60012 70000 60042 444 555 =";
+    let bulletin = b"\rAAXX\n 11061 40001 12360 62704= 40001 NIL=\r\n";
+    for (text, filed) in [(report.as_slice(), true), (bulletin.as_slice(), false)] {
+        lend(take);
+        let mut make = |text: Vec<u8>| {
+            let call = if filed { Call::File { text } } else { Call::Bulletin { text } };
+            take(Step::Damaged { edits: vec![(HEADS, 0)], call });
+        };
+        for at in 0..=text.len() {
+            let (before, after) = text.split_at(at);
+            make(before.to_vec());
+            make(after.to_vec());
+            make([before, after.get(1..).unwrap_or(b"")].concat());
+            for byte in 0..=255 {
+                make([before, &[byte], after].concat());
+                make([before, &[byte], after.get(1..).unwrap_or(b"")].concat());
+            }
+        }
+    }
+    for len in (505..=520).chain(16_376..=16_392) {
+        let mut text = vec![b' '; len];
+        text[..18].copy_from_slice(b"AAXX 11061 40001 N");
+        text.splice(17..20, *b"NIL");
+        text[len - 1] = b'=';
+        take(Step::Call(Call::File { text: text.clone() }));
+        take(Step::Call(Call::Bulletin { text }));
+    }
+}
