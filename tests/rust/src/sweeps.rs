@@ -10,7 +10,7 @@ type Take<'a> = &'a mut dyn FnMut(Step);
 
 type Sweep = fn(Take);
 
-pub const SWEEPS: [(&str, Sweep); 16] = [
+pub const SWEEPS: [(&str, Sweep); 17] = [
     ("each byte of a store, each value", bytes_of_a_store),
     ("dates", dates),
     ("YY, GG, iw", headings),
@@ -23,6 +23,7 @@ pub const SWEEPS: [(&str, Sweep); 16] = [
     ("dd with W, X of slot 4 with M of slot 0", internal),
     ("rain by tR and what is missing", rain_totals),
     ("dew points", dew_points),
+    ("day lines", day_lines),
     ("cells", cells),
     ("stations by the numbers in other places", other_numbers),
     ("short lists of groups", short_lists),
@@ -241,6 +242,42 @@ fn dew_points(take: Take) {
             edits.extend(cell(checked(7, 1), Some(other)));
             take(Step::Damaged { edits, call: Call::Day { station: STATION } });
         }
+    }
+}
+
+/// A sheet on which every cell is read: one cell of it missing, corrected or filled, with values up to the ends of
+/// 16 bits; two temperatures alike; then all cells alike. Rain is that of 24 hours, and that of two halves.
+fn day_lines(take: Take) {
+    lend(take);
+    let mut day = |changes: Edits| {
+        for (middle, last) in [(0, 4), (2, 2)] {
+            let mut edits = vec![(SETTLED, 1), (HEADS + 4 * 4 + 2, middle), (HEADS + 4 * 8 + 2, last)];
+            for (slot, element) in (0..81).map(|i| (i / 9, i % 9)) {
+                let value = 20 * element + (11 * slot + 5 * element) % 37 - 28;
+                edits.extend(cell(checked(slot as usize, element as usize), Some(value)));
+            }
+            edits.extend(&changes);
+            take(Step::Damaged { edits, call: Call::Day { station: STATION } });
+        }
+    };
+    let with_state = |mut changes: Edits, state: u8| {
+        changes.iter_mut().step_by(4).for_each(|change| change.1 = state);
+        changes
+    };
+    for at in (0..81).map(|i| checked(i / 9, i % 9)) {
+        day(cell(at, None));
+        for (state, value) in (1..4).flat_map(|s| [-32767, -501, -28, 0, 8, 501, 32767].map(|v| (s, v))) {
+            day(with_state(cell(at, Some(value)), state));
+        }
+    }
+    for (a, b) in (0..81).map(|i| (i / 9, i % 9)) {
+        for value in [-100, 100] {
+            day([cell(checked(a, 0), Some(value)), cell(checked(b, 0), Some(value))].concat());
+        }
+    }
+    day((0..81).flat_map(|i| cell(checked(i / 9, i % 9), None)).collect());
+    for (state, value) in (1..4).flat_map(|s| [-32767, -1, 0, 1, 400, 32767].map(|v| (s, v))) {
+        day(with_state((0..81).flat_map(|i| cell(checked(i / 9, i % 9), Some(value))).collect(), state));
     }
 }
 
