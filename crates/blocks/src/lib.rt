@@ -1,12 +1,9 @@
 // Whether the stations' blocks of a store are sound: slot heads and cells, by document 01's "The store".
 ghost use mathlib.Core.Path.{_≡_};
-ghost use mathlib.Core.Bool.{not, _&&_, _||_};
 ghost use Prim.Native.Nat.{_+_, _*_, _≤_};
-ghost use lib.Dec.{leb, ltb, eqb};
 ghost use lib.ListN.{length};
 ghost use Rattle.laws.specs.All.{all};
 ghost use Rattle.layout.specs.Layout.{blockLength, blockAt, headLength, cellLength, sheetLength, rawFrom, headAt};
-ghost use Rattle.layout.specs.Valid.{isDirection};
 ghost use Rattle.layout.specs.Sound.{soundHead, soundCell, soundBlock};
 use buffer::at::BLOCK;
 use buffer::at::CELL;
@@ -16,22 +13,8 @@ use buffer::at::HEAD;
 use buffer::at::HEADER;
 use buffer::at::RAW;
 use buffer::read::word_at;
-
-// A slot head's four bytes.
-fn is_head(filed: u8, ir: u8, tr: u8, dd: u8) -> bool
-    ensures { λ r. ⌜ r ≡ (leb filed 1 && leb ir 5 && leb tr 9 && isDirection dd) ⌝ }
-{
-    if 1 < filed {
-        return false;
-    }
-    if 5 < ir {
-        return false;
-    }
-    if 9 < tr {
-        return false;
-    }
-    (dd <= 36) | (dd == 99) | (dd == 100)
-}
+use fields::is_cell;
+use fields::is_head;
 
 fn is_head_at(store: &[u8], at: usize) -> bool
     requires { ⌜ at + headLength ≤ length (now store) ⌝ }
@@ -51,22 +34,6 @@ fn are_heads(store: &[u8], at: usize) -> bool
         }
     }
     true
-}
-
-// A cell, with the largest state and flag that may stand there.
-fn is_cell(state: u8, flag: u8, value: u16, states: u8, flags: u8) -> bool
-    ensures { λ r. ⌜ r ≡ (leb state states && leb flag flags && not (eqb value 32768) && (ltb 0 state || eqb value 0)) ⌝ }
-{
-    if states < state {
-        return false;
-    }
-    if flags < flag {
-        return false;
-    }
-    if value == 32768 {
-        return false;
-    }
-    (0 < state) | (value == 0)
 }
 
 fn is_cell_at(store: &[u8], at: usize, states: u8, flags: u8) -> bool

@@ -14,10 +14,10 @@ use Rattle.rules.specs.Step.{Outcome, unchanged, asked, step}
 use Rattle.rules.proofs.Steps.{sound-step}
 use Rattle.rules.proofs.Deeds.{all-lawful}
 use Rattle.rules.proofs.Reports.{report-bounds, long-report}
-use Rattle.deeds.specs.Good.{Good}
-use Rattle.deeds.specs.Replies.{Did}
-use Rattle.deeds.proofs.Outcomes.{step-sound}
-use Rattle.bulletin.specs.Rebuilt.{rebuilt}
+use Rattle.answers.specs.Good.{Good}
+use Rattle.answers.specs.Replies.{Did}
+use Rattle.answers.proofs.Outcomes.{step-sound}
+use Rattle.bulletin_text.specs.Rebuilt.{rebuilt}
 use Rattle.bulletin.specs.Bulletin.{Filed}
 
 -- the part of a buffer from 0 on

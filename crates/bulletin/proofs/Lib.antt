@@ -1,6 +1,4 @@
 -- Laws that the proofs of bulletins cite.
-pub mod Cuts
-pub mod Buffer
 pub mod Filing
 pub mod Reports
-pub mod Headings
+pub mod Results

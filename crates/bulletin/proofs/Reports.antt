@@ -12,11 +12,11 @@ use Rattle.text.specs.Walk.{part}
 use Rattle.layout.specs.Sound.{sound}
 use Rattle.rules.specs.Calls.{file}
 use Rattle.rules.specs.Step.{step}
-use Rattle.bulletin.specs.Rebuilt.{rebuilt}
-use Rattle.bulletin.specs.Pieces.{pieces, parted}
-use Rattle.bulletin.specs.Walk.{Reached}
-use Rattle.bulletin.specs.Bulletin.{Counts, none, tail, counted, filing, filings, atFirst, Filed, Tallied}
-use Rattle.bulletin.proofs.Cuts.{piece-here, piece-last}
+use Rattle.bulletin_text.specs.Rebuilt.{rebuilt}
+use Rattle.bulletin_text.specs.Pieces.{pieces, parted, none}
+use Rattle.bulletin_text.specs.Walk.{Reached}
+use Rattle.bulletin.specs.Bulletin.{Counts, tail, counted, filing, filings, atFirst, Filed, Tallied}
+use Rattle.bulletin_text.proofs.Cuts.{piece-here, piece-last}
 
 -- there is a piece always
 data Some : List (List ℕ) → Type 0 where

@@ -7,15 +7,13 @@ use Prim.Native.Nat.{ℕ, _+_, _≤_}
 use lib.Dec.{leb}
 use lib.ListN.{length, drop}
 use Rattle.layout.specs.Sound.{sound}
-use Rattle.text.specs.Groups.{groups}
-use Rattle.text.specs.Kinds.{kindOf}
 use Rattle.rules.specs.Calls.{isAccepted, file}
 use Rattle.rules.specs.Step.{Outcome, step}
-use Rattle.bulletin.specs.Pieces.{parted}
-use Rattle.bulletin.specs.Heading.{headingOf}
-use Rattle.bulletin.specs.Rebuilt.{heading, rebuilt}
-use Rattle.bulletin.specs.declared.Heading.{Heading}
-use Rattle.bulletin.specs.declared.Heading.the-variants.{Faulty, Timed}
+use Rattle.bulletin_text.specs.Pieces.{parted, none}
+use Rattle.bulletin_text.specs.Heading.{headingIn}
+use Rattle.bulletin_text.specs.Rebuilt.{heading, rebuilt}
+use Rattle.bulletin_text.specs.declared.Heading.{Heading}
+use Rattle.bulletin_text.specs.declared.Heading.the-variants.{Faulty, Timed}
 use Rattle.bulletin.specs.declared.BulletinReply.{BulletinReply}
 use Rattle.bulletin.specs.declared.BulletinReply.the-variants as reply
 
@@ -36,10 +34,6 @@ filing head gs t =
     counted (isAccepted (o .answer)) (o .store) t
 
 -- "A tail without `=` is one report refused 1, unless it is blank."
-abbrev pub none : List (List ℕ) → Bool
-none [] = true
-none (g ∷ gs) = false
-
 abbrev pub tail : List (List ℕ) → Counts → Counts
 tail gs t = cond (none gs) t (counted false (t .store) t)
 
@@ -72,12 +66,10 @@ abbrev pub under : Heading → List (List (List ℕ)) → List ℕ → Result
 under (Faulty n) ps s = unchanged n s
 under (Timed a b c d e) ps s = told (filings (heading a b c d e) ps (atFirst s))
 
--- the heading is the first two groups; "3 also where `=` or the end cuts it before its second group is whole"
+-- the heading is the first two groups of the first piece, and the reports stand behind it
 unfoldable pub headed : List (List (List ℕ)) → List ℕ → Result
 headed [] s = unchanged 3 s
-headed ([] ∷ more) s = unchanged 3 s
-headed ((g ∷ []) ∷ more) s = unchanged 3 s
-headed ((g ∷ h ∷ gs) ∷ more) s = under (headingOf (kindOf g) (kindOf h)) (gs ∷ more) s
+headed (gs ∷ more) s = under (headingIn gs) (drop 2 gs ∷ more) s
 
 -- "At most 16384 bytes"; "Refused whole: 9, then 1 for length 0 or too long, 3 or 4 for the heading"
 unfoldable pub result : List ℕ → List ℕ → Result
@@ -104,11 +96,6 @@ pub record Tallied (t : Counts) (a r : ℕ) (s : List ℕ) : Type 0 where
   pub accepted : a ≡ t .accepted
   pub refused : r ≡ t .refused
   pub left : s ≡ t .store
-
--- in a piece that stands first, the heading h is read and the reports' groups stand from `at` on
-pub record Begins (p : List ℕ) (h : Heading) (at : ℕ) : Type 0 where
-  pub upto : at ≤ length p
-  pub same : (more : List (List (List ℕ))) (s : List ℕ) → headed (groups p ∷ more) s ≡ under h (groups (drop at p) ∷ more) s
 
 -- the reports of a text that is not too long stand from `at` on, and the store is sound
 pub record Ready (s text : List ℕ) (at : ℕ) : Type 0 where

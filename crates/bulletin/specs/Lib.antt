@@ -1,6 +1,2 @@
--- Bulletins: how a text is cut into reports, the heading, each report's rebuilt text, and what the whole answers and leaves.
-pub mod Pieces
-pub mod Heading
-pub mod Rebuilt
+-- Bulletins: what the whole answers and leaves.
 pub mod Bulletin
-pub mod Walk

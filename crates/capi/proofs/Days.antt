@@ -4,10 +4,10 @@ use mathlib.Core.Path.{_≡_, refl, sym, ap}
 use Prim.Native.Nat.{ℕ}
 use Rattle.daily.specs.Line as Line
 use Rattle.daily.specs.declared.DayLine.{DayLine}
-use Rattle.deeds.specs.Replies.{SaysDay}
-use Rattle.deeds.specs.declared.answer.DayReply.the-variants as reply
+use Rattle.answers.specs.Replies.{SaysDay}
+use Rattle.answers.specs.declared.DayReply.the-variants as reply
 use Rattle.rules.specs.Calls.{Answer, refused, accepted, aCell, aDay}
-use Rattle.capi.specs.Arrays.{lineOf}
+use Rattle.arrays.specs.Arrays.{lineOf}
 
 pub refused-is : (n : ℕ) (a : Answer) → SaysDay (reply.Refused n) a → a ≡ refused n
 refused-is n (refused m) h = ap refused (sym h)

@@ -1,4 +1,3 @@
 -- Laws that the calls' proofs cite.
-pub mod Signed
 pub mod Bounds
 pub mod Days

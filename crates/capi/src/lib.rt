@@ -1,21 +1,22 @@
 // The calls for C and Rust: open, file, settle, cell, day and bulletin. Each returns 0 or the refusal's number, and writes what it answers into the
 // caller's arrays, which a refusal leaves as they are. No call has a `requires`: each answers on every buffer and argument.
-mod arrays;
-
 ghost use mathlib.Core.Path.{_≡_};
+ghost use mathlib.Core.List.{[], _∷_};
+ghost use lib.IntN.{pos};
 ghost use Rattle.capi.specs.Arrays.{cellNumbers, dayFloats, dayNumbers};
 ghost use Rattle.capi.specs.Numbers.{number, Returned, Delivered};
 ghost use Rattle.bulletin.specs.Bulletin.{result};
-ghost use Rattle.deeds.specs.Replies.{reply, openOutcome};
+ghost use Rattle.answers.specs.Replies.{reply, openOutcome};
 ghost use Rattle.rules.specs.Calls as Calls;
 ghost use Rattle.rules.specs.Step.{step};
-use arrays::cell_numbers;
+use answers::CellReply;
+use answers::DayReply;
+use answers::Reading;
+use answers::Reply;
 use arrays::line_floats;
 use arrays::line_numbers;
 use bulletin::BulletinReply;
-use deeds::answer::CellReply;
-use deeds::answer::DayReply;
-use deeds::answer::Reply;
+use laws::less;
 
 // The number of an answer without a value.
 fn number_of(r: Reply) -> u32
@@ -25,6 +26,13 @@ fn number_of(r: Reply) -> u32
         Reply::Accepted => 0,
         Reply::Refused(n) => n,
     }
+}
+
+// A checked cell: state, flag, value.
+fn cell_numbers(c: Reading) -> [i32; 3]
+    ensures { λ r. ⌜ r ≡ pos (c .state) ∷ pos (c .flag) ∷ c .value ∷ [] ⌝ }
+{
+    [less(c.state as u32, 0), less(c.flag as u32, 0), c.value]
 }
 
 // Opens a store for a date and stations, each with its climate row: 0 or 10.

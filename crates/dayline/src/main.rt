@@ -14,9 +14,9 @@ use dayline_filing::station_text;
 use dayline_filing::tail;
 use dayline_input::first_line;
 use dayline_input::read;
+use dayline_print::refused_text;
 use dayline_text::line::Opening;
 use dayline_text::line::opened;
-use dayline_text::print::refused_text;
 
 // ---- the input
 

@@ -17,7 +17,7 @@ use Rattle.synop.specs.Report.{Report}
 use Rattle.rules.specs.Calls.{Answer, refused, isAccepted, file, ask, askFile}
 use Rattle.rules.proofs.Reports.{long-report}
 use Rattle.rules.specs.Step.{Outcome, unchanged, asked, step}
-use Rattle.deeds.specs.Replies.{Did}
+use Rattle.answers.specs.Replies.{Did}
 use Rattle.dayline_text.specs.Cuts.{Kept, Adds, isBlank}
 use Rattle.dayline_filing.specs.declared.Progress.{Progress}
 use Rattle.dayline_filing.specs.Reports.{reports, rest, allBlank, tail, inputReports}

@@ -8,12 +8,12 @@ use lib.ListN.{length, take}
 use Rattle.daily.specs.Coded.{Says}
 use Rattle.daily.specs.Line as Line
 use Rattle.daily.specs.declared.DayLine.{DayLine}
-use Rattle.deeds.specs.Replies.{SaysDay}
-use Rattle.deeds.specs.declared.answer.DayReply.{DayReply}
-use Rattle.deeds.specs.declared.answer.DayReply.the-variants as ofDay
+use Rattle.answers.specs.Replies.{SaysDay}
+use Rattle.answers.specs.declared.DayReply.{DayReply}
+use Rattle.answers.specs.declared.DayReply.the-variants as ofDay
 use Rattle.rules.specs.Calls.{Answer, refused, accepted, aCell, aDay, day}
 use Rattle.rules.specs.Step.{step}
-use Rattle.dayline_text.specs.Printed.{stationText, dayText, Shows}
+use Rattle.dayline_print.specs.Printed.{stationText, dayText, Shows}
 use Rattle.dayline_filing.specs.Printed.{settled, lineOf}
 
 said : (station : ℕ) (l : DayLine) (d : Line.DayLine) → Says l d → dayText station l ≡ lineOf station (aDay d)

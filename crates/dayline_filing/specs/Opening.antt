@@ -5,7 +5,7 @@ use mathlib.Core.List.{List}
 use Rattle.dayline_text.specs.FirstLine.{First, cannotOpen, opens}
 use Rattle.dayline_text.specs.Line.{told}
 use Rattle.dayline_text.specs.declared.line.Opening.{Opening}
-use Rattle.deeds.specs.Replies.{openOutcome}
+use Rattle.answers.specs.Replies.{openOutcome}
 use Rattle.rules.specs.Calls.{refused}
 use Rattle.rules.specs.Step.{Outcome, unchanged}
 use Rattle.rules.specs.Calls.{isAccepted}

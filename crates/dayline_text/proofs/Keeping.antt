@@ -6,9 +6,8 @@ use Prim.Native.Nat.{ℕ, _+_, _<_, _≤_}
 use native.Mathlib.Numerals.{add-one}
 use native.Mathlib.Omega.{arith}
 use lib.ListN.{length, take, set, getD, length-set, length-append, length-take}
-use lib.Seq.{take-suc, take-suc-set, take-all, take-append-le, take-nil, length-take-le}
+use lib.Seq.{take-suc, take-suc-set, take-all, take-append-le, length-take-le}
 use Rattle.dayline_text.specs.Cuts.{Kept, Adds}
-use Rattle.dayline_text.specs.Printed.{Shows}
 
 -- ---- one byte more
 module _ {kept : List ℕ} {held : ℕ} {text : List ℕ} (b : ℕ) (v : Kept kept held text) where
@@ -70,9 +69,3 @@ adds-two {new = new} {n = n} x y f g text v = subst (Kept new n) (append-assoc t
 
 pub adds-as : {old : List ℕ} {held : ℕ} {new : List ℕ} {n : ℕ} {x y : List ℕ} → x ≡ y → Adds old held new n x → Adds old held new n y
 adds-as {new = new} {n = n} e f text v = subst (λ (t : List ℕ). Kept new n (text ++ t)) e (f text v)
-
--- ---- the whole text, where there is room for it
-pub shown : {old : List ℕ} (new : List ℕ) (n : ℕ) (x : List ℕ) → Adds old 0 new n x → length new ≡ 160 → length x ≤ 160 → Shows new n x
-shown {old} new n x f l h =
-    let v = f [] (record { upto = omega arith; same = sym (take-nil (length old)) }) in
-    record { upto = v .upto; long = sym (length-take-le n new (v .upto)); same = v .same ∙ take-all (length new) x (omega arith) }

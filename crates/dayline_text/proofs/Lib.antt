@@ -1,8 +1,7 @@
--- Laws of the places where the input is cut, of the bytes that are kept, of the first line and of the printed lines.
+-- Laws of the places where the input is cut, of the bytes that are kept, and of the first line.
 mod Cuts
-mod Keeping
+pub mod Keeping
 mod Lines
 mod Opening
-mod Printing
 mod Examples
 pub mod Parts

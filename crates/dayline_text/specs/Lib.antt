@@ -1,6 +1,4 @@
--- The text that program `dayline` reads and prints.
+-- The text that the program `dayline` reads.
 pub mod Cuts
 pub mod FirstLine
 pub mod Line
-pub mod Numbers
-pub mod Printed

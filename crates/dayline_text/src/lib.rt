@@ -1,5 +1,3 @@
-// The text that program `dayline` reads and prints, over slices: its first line, the cut of its reports, and the lines of its output.
+// The text that the program `dayline` reads, over slices: its first line, and the cut of its reports.
 pub mod cut;
-pub mod digits;
 pub mod line;
-pub mod print;

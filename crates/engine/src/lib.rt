@@ -3,12 +3,12 @@
 ghost use mathlib.Core.Path.{_≡_};
 ghost use Rattle.layout.specs.Layout.{decode};
 ghost use Rattle.rules.specs.Calls as Calls;
-ghost use Rattle.deeds.specs.Good.{Good};
-ghost use Rattle.deeds.specs.Replies.{reply, cellReply, SaysDay, Did, openOutcome};
+ghost use Rattle.answers.specs.Good.{Good};
+ghost use Rattle.answers.specs.Replies.{reply, cellReply, SaysDay, Did, openOutcome};
 ghost use Rattle.rules.specs.Step.{asked, step};
-use deeds::answer::CellReply;
-use deeds::answer::DayReply;
-use deeds::answer::Reply;
+use answers::CellReply;
+use answers::DayReply;
+use answers::Reply;
 use soundness::find::Located;
 use soundness::find::find;
 use soundness::find::locate;
@@ -61,7 +61,7 @@ pub fn settle(store: &mut [u8], station: u32) -> Reply
         Located::Unsound => Reply::Refused(9),
         Located::Absent => Reply::Refused(6),
         Located::At(place) => {
-            deeds::settling::settle_at(store, place);
+            settling::settle_at(store, place);
             Reply::Accepted
         }
     }
@@ -74,7 +74,7 @@ pub fn cell(store: &[u8], station: u32, element: u32, slot: u32) -> CellReply
     match locate(store, station) {
         Located::Unsound => CellReply::Refused(9),
         Located::Absent => CellReply::Refused(6),
-        Located::At(place) => deeds::asking::cell_at(store, place, element, slot),
+        Located::At(place) => asking::cell_at(store, place, element, slot),
     }
 }
 
@@ -85,6 +85,6 @@ pub fn day(store: &[u8], station: u32) -> DayReply
     match locate(store, station) {
         Located::Unsound => DayReply::Refused(9),
         Located::Absent => DayReply::Refused(6),
-        Located::At(place) => deeds::asking::day_at(store, place),
+        Located::At(place) => asking::day_at(store, place),
     }
 }

@@ -4,8 +4,8 @@ use Rattle.daily.specs.declared.DayLine.{DayLine}
 use Rattle.daily.specs.Coded.{IsNumber}
 use Rattle.daily.proofs.Answers.{number}
 use Rattle.rules.specs.Calls.{Answer, refused, accepted, aCell, aDay}
-use Rattle.deeds.specs.declared.answer.DayReply.the-variants.{Line}
-use Rattle.deeds.specs.Replies.{SaysDay}
+use Rattle.answers.specs.declared.DayReply.the-variants.{Line}
+use Rattle.answers.specs.Replies.{SaysDay}
 
 pub numbers : (l : DayLine) (a : Answer) → SaysDay (Line l) a
     → IsNumber (l .temperature) × IsNumber (l .«dew_point») × IsNumber (l .pressure) × IsNumber (l .wind) × IsNumber (l .cloud) × IsNumber (l .vapour)

@@ -17,18 +17,18 @@
 //
 // `stdout` was not made by this program. It is what the second reading of the paper in plain Rust prints for the same `stdin`
 // (`tests/rust`, `reference_calls`); the comments in `stdin` say which number the paper's order of tests asks for.
-use deeds::answer::CellReply;
-use deeds::answer::DayReply;
-use deeds::answer::Reply;
-use engine_cases::compared::compare;
-use engine_cases::compared::put;
-use engine_cases::line;
-use engine_cases::line::number_at;
-use engine_cases::print::count;
-use engine_cases::print::number;
-use engine_cases::print::print_line;
-use engine_cases::print::signed;
-use engine_cases::print::text;
+use answers::CellReply;
+use answers::DayReply;
+use answers::Reply;
+use cases::compared::compare;
+use cases::compared::put;
+use cases::line;
+use cases::line::number_at;
+use cases::print::count;
+use cases::print::number;
+use cases::print::print_line;
+use cases::print::signed;
+use cases::print::text;
 use libc::STDIN_FILENO;
 
 fn said(r: Reply) {

@@ -14,7 +14,7 @@ use Rattle.contents.specs.declared.Head.{Head}
 use Rattle.rules.specs.Calls.{Answer, refused, accepted}
 use Rattle.rules.specs.Rules.{Done, rawCell, filedHead, filed, fileAt}
 use Rattle.rules.specs.Step.{Outcome, after}
-use Rattle.deeds.specs.Replies.{Did}
+use Rattle.answers.specs.Replies.{Did}
 
 -- an outcome that is another one
 pub did-as : {o p : Outcome} {a : Answer} {t : List ℕ} → o ≡ p → Did p a t → Did o a t

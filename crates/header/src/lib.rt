@@ -1,13 +1,10 @@
-// Whether a store's header and its stations' entries are sound, by document 01's "The store".
+// Whether a store's header is sound, by document 01's "The store".
 ghost use mathlib.Core.Path.{_≡_};
-ghost use mathlib.Core.Bool.{_&&_};
-ghost use Prim.Native.Nat.{_-_, _≤_};
-ghost use lib.Dec.{leb, ltb};
+ghost use Prim.Native.Nat.{_≤_};
 ghost use lib.ListN.{length};
-ghost use Rattle.laws.specs.All.{all};
 ghost use Rattle.calendar.specs.Dates.{isDate};
-ghost use Rattle.layout.specs.Layout.{word, yearAt, monthAt, dayAt, headerLength, entryAt};
-ghost use Rattle.layout.specs.Sound.{soundEntry, soundOrder, soundHeader};
+ghost use Rattle.layout.specs.Layout.{word, yearAt, monthAt, dayAt, headerLength};
+ghost use Rattle.layout.specs.Sound.{soundHeader};
 use buffer::at::BLOCK;
 use buffer::at::BLOCKS;
 use buffer::at::COUNT;
@@ -18,40 +15,8 @@ use buffer::at::LAST;
 use buffer::at::LENGTH;
 use buffer::at::LIST;
 use buffer::at::MONTH;
-use buffer::at::ROW;
-use buffer::at::SETTLED;
 use buffer::at::YEAR;
-use buffer::read::long_at;
 use buffer::read::word_at;
-
-// A station's entry, with a number above the one before.
-fn is_entry(last: u32, number: u32, row: u16, settled: u16) -> bool
-    ensures { λ r. ⌜ r ≡ (ltb last number && (leb 1 number && leb number 99999 && leb row 1 && leb settled 1)) ⌝ }
-{
-    (last < number) & ((1 <= number) & (number <= 99999) & (row <= 1) & (settled <= 1))
-}
-
-// The n stations' entries, each with a number above the one before.
-pub fn are_entries(store: &[u8], n: usize) -> bool
-    requires { ⌜ entryAt n ≤ length (now store) ⌝ }
-    ensures { λ r. ⌜ r ≡ (all (soundEntry (now (store .entry))) n && all (soundOrder (now (store .entry))) (n - 1)) ⌝ }
-{
-    let mut last = 0;
-    for i in 0..n {
-        let at = HEADER + ENTRY * i;
-        let number = long_at(store, at);
-        if !is_entry(
-            last,
-            number,
-            word_at(store, at + ROW),
-            word_at(store, at + SETTLED),
-        ) {
-            return false;
-        }
-        last = number;
-    }
-    true
-}
 
 fn is_date_there(store: &[u8]) -> bool
     requires { ⌜ headerLength ≤ length (now store) ⌝ }

@@ -1,2 +1,2 @@
--- Laws that this crate's proofs, and those of the crates above, cite.
-pub mod Fresh
+-- Laws that this crate's proofs cite.
+pub mod Listed

@@ -1,8 +1,7 @@
-// Runs the column checks and prints what they answer: cells at every limit, pairs of cells, winds, columns through the time and fill
-// steps, and whole sheets, four made by hand and many by a generator. A cell is printed as state, flag and value.
+// Runs the column checks and prints what they answer: cells at every limit, pairs of cells, winds, and columns through the time and fill
+// steps. A cell is printed as state, flag and value. Whole sheets through all four steps are in `engine_test`.
 mod cells;
 mod columns;
-mod sheets;
 mod show;
 mod single;
 
@@ -11,5 +10,4 @@ fn main() {
     single::show_pairs();
     single::show_winds();
     columns::show_columns();
-    sheets::show_sheets();
 }

@@ -26,7 +26,7 @@ use Rattle.figures.specs.Digits
 use Rattle.figures.specs.Elements
 use Rattle.figures.specs.Heads
 use Rattle.codes.specs.Value.{missing, read}
-use Rattle.synop.specs.Parts
+use Rattle.parts.specs.Parts
 use Rattle.contents.specs.Contents
 use Rattle.synop.specs.Report
 use Rattle.quality.specs.Steps

@@ -1,11 +1,11 @@
 // The test for an unsound store: document 01's "The store" up to "A buffer that breaks any of this is unsound".
 ghost use mathlib.Core.Path.{_≡_};
 ghost use Rattle.layout.specs.Sound.{sound};
+use crate::entries::are_entries;
 use blocks::are_blocks;
 use buffer::at::COUNT;
 use buffer::at::HEADER;
 use buffer::read::word_at;
-use header::are_entries;
 use header::is_header;
 
 // Whether a buffer is a sound store.

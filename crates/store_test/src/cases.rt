@@ -1,6 +1,5 @@
 // The cases of standard input: each line has bytes to set, as position:byte, in a fresh store of the stations 10 and 20. The line
 // is printed with the verdict on the store.
-use crate::show::number;
 use crate::show::verdict;
 use crate::show::word;
 use opening::open::open;
@@ -70,24 +69,4 @@ pub fn cases(store: &mut [u8], input: &[u8]) {
         echo(b);
         s = step(store, s, b);
     }
-}
-
-// The first n bytes of a store.
-fn first(store: &[u8], n: usize) {
-    if n <= store.len() {
-        word(b"first ");
-        number(n);
-        verdict(&store[..n]);
-    }
-}
-
-// The first bytes of a store, and all of it.
-pub fn lengths(store: &[u8]) {
-    first(store, 0);
-    first(store, 1);
-    first(store, 15);
-    first(store, 16);
-    first(store, 708);
-    first(store, 1399);
-    first(store, 1400);
 }

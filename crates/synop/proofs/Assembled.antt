@@ -14,7 +14,7 @@ use Rattle.checks.specs.Refusal.{ofGroups, refusal}
 use Rattle.places.specs.Places.{isNil}
 use Rattle.places.specs.declared.Place.{Place}
 use Rattle.laws.proofs.Bools.{via}
-use Rattle.synop.specs.Parts as parts
+use Rattle.parts.specs.Parts as parts
 use Rattle.contents.specs.Contents.{headingOf, headOf}
 use Rattle.synop.specs.Report.{refused, nil, whole, part, rainGroup, valuesIn, content, read, report}
 use Rattle.contents.specs.declared.Heading.{Heading}

@@ -19,7 +19,7 @@ use Rattle.checks.specs.Shapes.{areDigits, shapedFrom}
 use Rattle.checks.specs.Ranges.{isDay, isHour, isUnit, isTime, isStation, rangedFrom}
 use Rattle.checks.specs.Refusal.{ofGroups, refusal}
 use Rattle.contents.specs.Contents as contents
-use Rattle.synop.specs.Parts as parts
+use Rattle.parts.specs.Parts as parts
 use Rattle.synop.specs.Report as reports
 use Rattle.synop.specs.Report.{Report, whole, report}
 

@@ -1,6 +1,5 @@
 -- Laws of the reading of a report. `Refusals` and `Ranges` are for callers.
 mod Assembled
-mod Parts
 mod Walking
 pub mod Refusals
 pub mod Ranges

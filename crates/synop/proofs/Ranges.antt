@@ -26,8 +26,8 @@ use Rattle.checks.specs.Ranges.{isDay, isHour, isUnit, isTime, isStation, range
 use Rattle.checks.specs.Refusal.{ofGroups, refusal}
 use Rattle.places.specs.declared.Place.{Place}
 use Rattle.places.specs.declared.Place.the-variants.{Start, Station}
-use Rattle.synop.specs.Parts as parts
-use Rattle.synop.specs.Parts.{first}
+use Rattle.parts.specs.Parts as parts
+use Rattle.parts.specs.Parts.{first}
 use Rattle.contents.specs.Contents.{charactersOf, numberOf, twoOf, stationOf, headingOf}
 use Rattle.contents.proofs.Numbers.{number-below}
 use Rattle.contents.proofs.Ranges.{Headed, Valued, headed, valued}

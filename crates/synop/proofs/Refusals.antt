@@ -12,7 +12,7 @@ use Rattle.places.specs.Places.{isNil, final}
 use Rattle.checks.specs.Refusal.{refusal}
 use Rattle.places.specs.declared.Place.{Place}
 use Rattle.places.specs.declared.Place.the-variants.{Start}
-use Rattle.synop.specs.Parts.{parts}
+use Rattle.parts.specs.Parts.{parts}
 use Rattle.synop.specs.Report.{Report, refused, nil, whole, content, read, report}
 
 abbrev pub numberIn : Report → ℕ

@@ -25,9 +25,9 @@ use Rattle.checks.specs.Ranges.{ranged, rangedFrom, check4}
 use Rattle.checks.specs.Refusal.{ofGroups}
 use Rattle.places.specs.declared.Place.{Place}
 use Rattle.places.specs.declared.Place.the-variants.{Start}
-use Rattle.synop.specs.Parts.{partOf, firstOf, first, parts}
+use Rattle.parts.specs.Parts.{partOf, firstOf, first, parts}
 use Rattle.synop.specs.Report.{Report, refused, content, read, answered}
-use Rattle.synop.proofs.Parts.{part-below, first-assoc, first-none}
+use Rattle.parts.proofs.Laws.{part-below, first-assoc, first-none}
 
 -- the groups before `at` have their shapes; p is the place of the last of them, `good` says whether all are in range, and `kept`
 -- has the parts among them

@@ -1,3 +1,2 @@
--- A report read: which group is which, and what a text is.
-pub mod Parts
+-- A report read: what a text is.
 pub mod Report

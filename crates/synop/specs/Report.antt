@@ -13,8 +13,8 @@ use Rattle.places.specs.Places.{begun, isNil, final, complete}
 use Rattle.checks.specs.Refusal.{ofGroups, refusal}
 use Rattle.places.specs.declared.Place.{Place}
 use Rattle.places.specs.declared.Place.the-variants.{Start}
-use Rattle.synop.specs.Parts as parts
-use Rattle.synop.specs.Parts.{firstOf}
+use Rattle.parts.specs.Parts as parts
+use Rattle.parts.specs.Parts.{firstOf}
 use Rattle.contents.specs.Contents.{headingOf, headOf, valuesOf, listed}
 use Rattle.contents.specs.declared.Heading.{Heading}
 use Rattle.contents.specs.declared.Head.{Head}

@@ -4,11 +4,24 @@ ghost use mathlib.Core.Path.{_≡_};
 ghost use Rattle.text.specs.Kinds.{tokens};
 ghost use Rattle.checks.specs.Refusal as refusals;
 ghost use Rattle.contents.specs.Contents.{listed};
-ghost use Rattle.synop.specs.Parts as parts;
 ghost use Rattle.synop.specs.Report as reports;
 use contents::Head;
 use contents::Heading;
 use contents::Values;
+use parts::DEW_POINT;
+use parts::GALE;
+use parts::LATER_RAIN;
+use parts::MAXIMUM;
+use parts::MINIMUM;
+use parts::PRESSURE;
+use parts::RAIN;
+use parts::STATION;
+use parts::TEMPERATURE;
+use parts::TIME;
+use parts::VISIBILITY;
+use parts::WIND;
+use parts::first_of;
+use parts::part_of;
 use places::Place;
 use text::Cursor;
 use text::Group;
@@ -19,112 +32,6 @@ pub enum Report {
     Refused(u8),
     Nil(Heading),
     Whole(Heading, Head, Values),
-}
-
-// ---- which group is which
-
-// The parts of a report that are read, by number.
-const TIME: usize = 0;
-
-const STATION: usize = 1;
-
-const VISIBILITY: usize = 2;
-
-const WIND: usize = 3;
-
-const GALE: usize = 4;
-
-const TEMPERATURE: usize = 5;
-
-const DEW_POINT: usize = 6;
-
-const PRESSURE: usize = 7;
-
-const RAIN: usize = 8;
-
-const MAXIMUM: usize = 9;
-
-const MINIMUM: usize = 10;
-
-const LATER_RAIN: usize = 11;
-
-const UNREAD: usize = 12;
-
-// The first of two groups, `Other` standing for none.
-fn first_of(g: Group, h: Group) -> Group
-    ensures { λ r. ⌜ r ≡ parts.firstOf g h ⌝ }
-{
-    match g {
-        Group::Other => h,
-        Group::Aaxx => g,
-        Group::Nil => g,
-        Group::Section(_) => g,
-        Group::Five(_, _, _, _, _) => g,
-    }
-}
-
-fn of_one(d: u8) -> usize
-    ensures { λ r. ⌜ r ≡ parts.ofOne d ⌝ }
-{
-    match d {
-        b'1' => TEMPERATURE,
-        b'2' => DEW_POINT,
-        b'4' => PRESSURE,
-        b'6' => RAIN,
-        _ => UNREAD,
-    }
-}
-
-fn of_three(a: u8) -> usize
-    ensures { λ r. ⌜ r ≡ parts.ofThree a ⌝ }
-{
-    match a {
-        b'1' => MAXIMUM,
-        b'2' => MINIMUM,
-        b'6' => LATER_RAIN,
-        _ => UNREAD,
-    }
-}
-
-fn in_three(g: Group) -> usize
-    ensures { λ r. ⌜ r ≡ parts.inThree g ⌝ }
-{
-    match g {
-        Group::Other => UNREAD,
-        Group::Aaxx => UNREAD,
-        Group::Nil => UNREAD,
-        Group::Section(_) => UNREAD,
-        Group::Five(a, _, _, _, _) => of_three(a),
-    }
-}
-
-fn of_later(n: u8, run: bool, g: Group) -> usize
-    ensures { λ r. ⌜ r ≡ parts.ofLater n run g ⌝ }
-{
-    let counts = (n == 3) & !run;
-    if counts {
-        return in_three(g);
-    }
-    UNREAD
-}
-
-// The part of a report that a group at this place is.
-fn part_of(p: Place, g: Group) -> usize
-    ensures { λ r. ⌜ r ≡ parts.partOf p g ⌝ }
-{
-    match p {
-        Place::Start => UNREAD,
-        Place::Letters => UNREAD,
-        Place::Time => TIME,
-        Place::Station => STATION,
-        Place::Nothing => UNREAD,
-        Place::Visibility => VISIBILITY,
-        Place::Wind(_) => WIND,
-        Place::Gale => GALE,
-        Place::One(d) => of_one(d),
-        Place::Later(n, run) => of_later(n, run, g),
-        Place::Wrong => UNREAD,
-    }
 }
 
 // ---- what the parts hold

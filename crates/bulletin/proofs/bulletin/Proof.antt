@@ -3,7 +3,7 @@
 use borrow.Author.Needs.{needs}
 use borrow.Author.Tests.{not-true, not-false}
 use Rattle.laws.proofs.Bools.{via}
-use Rattle.bulletin.proofs.Headings.{begins-as, short, headed-as, ready-at, gave-unsound, gave-long, gave-faulty, gave-counts}
+use Rattle.bulletin.proofs.Results.{begins-as, short, headed-as, ready-at, gave-unsound, gave-long, gave-faulty, gave-counts}
 use Rattle.bulletin.proofs.bulletin.Statement.{statement}
 use Rattle.bulletin.proofs.bulletin.Tie as tie
 

@@ -4,21 +4,21 @@ use mathlib.Core.Path.{_≡_, sym, ap}
 use mathlib.Core.Bool.{true, false}
 use native.Mathlib.Omega.{arith}
 use Rattle.text.specs.Groups.{groups}
-use Rattle.deeds.specs.Good.{Good}
-use Rattle.deeds.specs.Replies.{reply}
-use Rattle.deeds.specs.declared.answer.Reply.{Reply}
-use Rattle.bulletin.specs.Rebuilt.{heading, rebuilt}
+use Rattle.answers.specs.Good.{Good}
+use Rattle.answers.specs.Replies.{reply}
+use Rattle.answers.specs.declared.Reply.{Reply}
+use Rattle.bulletin_text.specs.Rebuilt.{heading, rebuilt}
 use Rattle.rules.specs.Calls.{isAccepted}
-use Rattle.bulletin.specs.Walk.{Holds}
+use Rattle.bulletin_text.specs.Walk.{Holds}
 use Rattle.bulletin.proofs.Filing.{front, too-long, filed}
 use borrow.Author.Needs.{needs}
 use Rattle.bulletin.proofs.file_report.Statement.{statement}
 use Rattle.bulletin.proofs.file_report.Tie as tie
 use Rattle.bulletin.proofs.file_report.Reads as reads
 use Rattle.bulletin.proofs.file_report.Lts as lts
-use Rattle.bulletin.proofs.begin.Reads as begin-reads
-use Rattle.bulletin.proofs.put.Reads as put-reads
-use Rattle.bulletin.proofs.squeeze.Reads as squeeze-reads
+use Rattle.bulletin_text.proofs.begin.Reads as begin-reads
+use Rattle.bulletin_text.proofs.put.Reads as put-reads
+use Rattle.bulletin_text.proofs.squeeze.Reads as squeeze-reads
 use Rattle.engine.proofs.file_in.Reads as file-in-reads
 
 -- the buffer after the last byte was put

@@ -3,16 +3,16 @@
 use Prim.Native.Nat.{_-_}
 use native.Mathlib.Omega.{arith}
 use lib.ListN.{length}
-use Rattle.bulletin.specs.Rebuilt.{heading}
+use Rattle.bulletin_text.specs.Rebuilt.{heading}
 use Rattle.bulletin.proofs.Reports.{Filing, filing-none, filing-more, filing-all, one-each}
 use borrow.Author.Needs.{needs}
 use Rattle.bulletin.proofs.file_reports.Statement.{statement}
 use Rattle.bulletin.proofs.file_reports.Tie as tie
 use Rattle.bulletin.proofs.file_reports.Reads as reads
 use Rattle.bulletin.proofs.file_reports.Lts as lts
-use Rattle.bulletin.proofs.end_of.Reads as end-of-reads
+use Rattle.bulletin_text.proofs.end_of.Reads as end-of-reads
 use Rattle.bulletin.proofs.file_report.Reads as file-report-reads
-use Rattle.bulletin.proofs.is_blank.Reads as is-blank-reads
+use Rattle.bulletin_text.proofs.is_blank.Reads as is-blank-reads
 use Rattle.bulletin.proofs.one_if.Reads as one-if-reads
 use Rattle.bulletin.proofs.one_unless.Reads as one-unless-reads
 

@@ -1,7 +1,7 @@
 -- `capi::esfenruk_cell` meets its contract.
 -- Assumes nothing.
 use mathlib.Core.Path.{_≡_, sym, _∙_, ap}
-use Rattle.deeds.specs.Replies.{cellReply}
+use Rattle.answers.specs.Replies.{cellReply}
 use Rattle.rules.specs.Calls.{Answer}
 use Rattle.capi.specs.Numbers.{number}
 use Rattle.capi.specs.Arrays.{cellNumbers}
@@ -10,7 +10,7 @@ use Rattle.capi.proofs.esfenruk_cell.Statement.{statement}
 use Rattle.capi.proofs.esfenruk_cell.Tie as tie
 use Rattle.capi.proofs.esfenruk_cell.Reads as reads
 use Rattle.capi.proofs.esfenruk_cell.Lts as lts
-use Rattle.capi.proofs.arrays.cell_numbers.Reads as cell-numbers-reads
+use Rattle.capi.proofs.cell_numbers.Reads as cell-numbers-reads
 use Rattle.engine.proofs.cell.Reads as cell-reads
 
 cell-requires : tie.Need-cell-requires

@@ -4,12 +4,13 @@ use borrow.Author.Needs.{needs}
 use mathlib.Core.Path.{_≡_, sym, _∙_, ap, subst}
 use lib.IntN.{ℤ}
 use Rattle.daily.specs.declared.DayLine.{DayLine}
-use Rattle.deeds.specs.Replies.{SaysDay}
-use Rattle.deeds.specs.declared.answer.DayReply.{DayReply}
+use Rattle.answers.specs.Replies.{SaysDay}
+use Rattle.answers.specs.declared.DayReply.{DayReply}
 use Rattle.rules.specs.Calls.{Answer, day}
 use Rattle.rules.specs.Step.{step}
 use Rattle.capi.specs.Numbers.{number}
-use Rattle.capi.specs.Arrays.{Small, floats, numbers, dayFloats, dayNumbers}
+use Rattle.arrays.specs.Arrays.{Small, floats, numbers}
+use Rattle.capi.specs.Arrays.{dayFloats, dayNumbers}
 use Rattle.capi.proofs.Bounds.{Modest, modest-step}
 use Rattle.capi.proofs.Days.{refused-is, line-is}
 use Rattle.capi.proofs.esfenruk_day.Statement.{statement}

@@ -1,13 +1,23 @@
--- `contents::heading_of` meets its contract, by what is ensured of the characters.
+-- `contents::heading_of` meets its contract: each number by what is ensured of it and of the characters.
 -- Assumes nothing.
+use mathlib.Core.Path.{_≡_, _∙_, ap}
 use borrow.Author.Needs.{needs}
-use Rattle.contents.specs.Contents.{headingOf}
+use Rattle.contents.specs.declared.Characters.{Characters}
+use Rattle.contents.specs.Contents.{headingOf, stationOf, twoOf}
 use Rattle.contents.proofs.heading_of.Statement.{statement}
 use Rattle.contents.proofs.heading_of.Tie as tie
 
-pub heading-of-spec : {M : Type 1} → statement M
+returns : tie.Need-returns
 unfolding headingOf
+returns c =
+    let s = c .before .before in
+    let x = s .before .before .characters-of .ensures in
+    let station = s .station-of .ensures ∙ ap stationOf (s .before .characters-of2 .ensures) in
+    let day = c .before .two-of .ensures ∙ ap (λ (y : Characters). twoOf (y .a) (y .b)) x in
+    let hour = c .two-of2 .ensures ∙ ap (λ (y : Characters). twoOf (y .c) (y .d)) x in
+    λ i. record { station = station i; day = day i; hour = hour i }
+
+pub heading-of-spec : {M : Type 1} → statement M
 heading-of-spec =
     tie.close
-    (tie.spec (λ c κs. search needs) (λ c κs. search needs) (λ c κs. search needs) (λ c κs. search needs) (λ c κs. search needs)
-    (λ c. cc))
+    (tie.spec (λ c κs. search needs) (λ c κs. search needs) (λ c κs. search needs) (λ c κs. search needs) (λ c κs. search needs) returns)

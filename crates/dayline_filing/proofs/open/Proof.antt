@@ -4,8 +4,8 @@ use borrow.Author.Needs.{needs}
 use mathlib.Core.Bool.{true, false}
 use mathlib.Core.Path.{sym, ap}
 use Rattle.dayline_text.proofs.Parts.{fits, counts}
-use Rattle.deeds.specs.Replies.{reply}
-use Rattle.deeds.specs.declared.answer.Reply.{Reply}
+use Rattle.answers.specs.Replies.{reply}
+use Rattle.answers.specs.declared.Reply.{Reply}
 use Rattle.rules.specs.Calls.{isAccepted}
 use Rattle.dayline_filing.proofs.Openings.{opened-not, opened-as}
 use Rattle.dayline_filing.proofs.open.Statement.{statement}

@@ -6,13 +6,13 @@ use native.Mathlib.Omega.{arith}
 use mathlib.Core.Path.{_≡_, refl, sym, _∙_, ap, subst}
 use Rattle.layout.specs.Place.{nowhere, place}
 use Rattle.soundness.proofs.Locations as Locations
-use Rattle.deeds.proofs.Outcomes as Outcomes
+use Rattle.answers.proofs.Outcomes as Outcomes
 use borrow.Author.Needs.{needs}
 use Rattle.engine.proofs.cell.Statement.{statement}
 use Rattle.engine.proofs.cell.Tie as tie
 use Rattle.engine.proofs.cell.Reads as reads
 use Rattle.engine.proofs.cell.Lts as lts
-use Rattle.deeds.proofs.asking.cell_at.Reads as cell-at-reads
+use Rattle.asking.proofs.cell_at.Reads as cell-at-reads
 use Rattle.soundness.proofs.find.locate.Reads as locate-reads
 
 locate-requires : tie.Need-locate-requires

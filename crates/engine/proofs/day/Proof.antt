@@ -1,20 +1,20 @@
 -- `engine::day` meets its contract.
 -- Assumes nothing.
-use Rattle.deeds.specs.declared.answer.DayReply.the-variants.{Refused}
-use Rattle.deeds.specs.Replies.{SaysDay}
+use Rattle.answers.specs.declared.DayReply.the-variants.{Refused}
+use Rattle.answers.specs.Replies.{SaysDay}
 use Rattle.rules.specs.Calls.{day}
 use Rattle.rules.specs.Step.{Outcome}
 use native.Mathlib.Omega.{arith}
 use mathlib.Core.Path.{_≡_, refl, sym, _∙_, ap, subst}
 use Rattle.layout.specs.Place.{nowhere, place}
 use Rattle.soundness.proofs.Locations as Locations
-use Rattle.deeds.proofs.Outcomes as Outcomes
+use Rattle.answers.proofs.Outcomes as Outcomes
 use borrow.Author.Needs.{needs}
 use Rattle.engine.proofs.day.Statement.{statement}
 use Rattle.engine.proofs.day.Tie as tie
 use Rattle.engine.proofs.day.Reads as reads
 use Rattle.engine.proofs.day.Lts as lts
-use Rattle.deeds.proofs.asking.day_at.Reads as day-at-reads
+use Rattle.asking.proofs.day_at.Reads as day-at-reads
 use Rattle.soundness.proofs.find.locate.Reads as locate-reads
 
 locate-requires : tie.Need-locate-requires

@@ -5,7 +5,7 @@ use borrow.Author.Tests.{not-true, not-false}
 use native.Mathlib.Omega.{arith}
 use mathlib.Core.Path.{_≡_, refl, sym, _∙_, ap, ap₂, subst}
 use Rattle.filing.proofs.Filed as Filed
-use Rattle.deeds.proofs.Outcomes as Outcomes
+use Rattle.answers.proofs.Outcomes as Outcomes
 use borrow.Author.Needs.{needs}
 use Rattle.engine.proofs.file.Statement.{statement}
 use Rattle.engine.proofs.file.Tie as tie

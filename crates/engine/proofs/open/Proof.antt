@@ -1,7 +1,7 @@
 -- `engine::open` meets its contract.
 -- Assumes nothing.
 use Rattle.rules.specs.Step.{Outcome}
-use Rattle.deeds.specs.Replies.{openOutcome}
+use Rattle.answers.specs.Replies.{openOutcome}
 use Rattle.laws.proofs.Bools.{via, cond-true, cond-false}
 use mathlib.Core.Path.{_≡_, refl, sym, _∙_, ap, subst}
 use borrow.Author.Needs.{needs}

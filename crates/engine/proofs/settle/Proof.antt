@@ -5,13 +5,13 @@ use native.Mathlib.Omega.{arith}
 use mathlib.Core.Path.{_≡_, refl, sym, _∙_, ap, subst}
 use Rattle.layout.specs.Place.{nowhere, place}
 use Rattle.soundness.proofs.Locations as Locations
-use Rattle.deeds.proofs.Outcomes as Outcomes
+use Rattle.answers.proofs.Outcomes as Outcomes
 use borrow.Author.Needs.{needs}
 use Rattle.engine.proofs.settle.Statement.{statement}
 use Rattle.engine.proofs.settle.Tie as tie
 use Rattle.engine.proofs.settle.Reads as reads
 use Rattle.engine.proofs.settle.Lts as lts
-use Rattle.deeds.proofs.settling.settle_at.Reads as settle-at-reads
+use Rattle.settling.proofs.settle_at.Reads as settle-at-reads
 use Rattle.soundness.proofs.find.locate.Reads as locate-reads
 
 locate-requires : tie.Need-locate-requires

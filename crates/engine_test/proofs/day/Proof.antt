@@ -1,8 +1,8 @@
 -- `engine_test::day` is safe and ends.
 -- Assumes nothing.
 use mathlib.Core.Path.{subst}
-use Rattle.deeds.specs.declared.answer.DayReply.{DayReply}
-use Rattle.deeds.specs.Replies.{SaysDay}
+use Rattle.answers.specs.declared.DayReply.{DayReply}
+use Rattle.answers.specs.Replies.{SaysDay}
 use Rattle.rules.specs.Calls as Calls
 use Rattle.rules.specs.Step.{step}
 use Rattle.engine_test.proofs.Lines as Lines
@@ -12,8 +12,8 @@ use Rattle.engine_test.proofs.day.Tie as tie
 use Rattle.engine_test.proofs.day.Reads as reads
 use Rattle.engine_test.proofs.day.Lts as lts
 use Rattle.engine.proofs.day.Reads as day-reads
-use Rattle.engine_cases.proofs.print.count.Reads as count-reads
-use Rattle.engine_cases.proofs.print.print_line.Reads as print-line-reads
+use Rattle.cases.proofs.print.count.Reads as count-reads
+use Rattle.cases.proofs.print.print_line.Reads as print-line-reads
 
 day-requires : tie.Need-day-requires
 day-requires c κs = search needs

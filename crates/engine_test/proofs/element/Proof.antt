@@ -6,7 +6,7 @@ use Rattle.engine_test.proofs.element.Statement.{statement}
 use Rattle.engine_test.proofs.element.Tie as tie
 use Rattle.engine_test.proofs.element.Reads as reads
 use Rattle.engine_test.proofs.element.Lts as lts
-use Rattle.engine_cases.proofs.print.text.Reads as text-reads
+use Rattle.cases.proofs.print.text.Reads as text-reads
 use Rattle.engine_test.proofs.cell.Reads as cell-reads
 
 abbrev Inv-loop : tie.InvT-loop

@@ -9,10 +9,10 @@ use Rattle.engine_test.proofs.open.Tie as tie
 use Rattle.engine_test.proofs.open.Reads as reads
 use Rattle.engine_test.proofs.open.Lts as lts
 use Rattle.engine.proofs.open.Reads as open-reads
-use Rattle.engine_cases.proofs.line.fields.Reads as fields-reads
-use Rattle.engine_cases.proofs.line.number_at.Reads as number-at-reads
-use Rattle.engine_cases.proofs.line.rows_of.Reads as rows-of-reads
-use Rattle.engine_cases.proofs.line.stations_of.Reads as stations-of-reads
+use Rattle.cases.proofs.line.fields.Reads as fields-reads
+use Rattle.cases.proofs.line.number_at.Reads as number-at-reads
+use Rattle.cases.proofs.line.rows_of.Reads as rows-of-reads
+use Rattle.cases.proofs.line.stations_of.Reads as stations-of-reads
 use Rattle.engine_test.proofs.said.Reads as said-reads
 
 stations-of-requires : tie.Need-stations-of-requires

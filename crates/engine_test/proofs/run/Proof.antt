@@ -7,10 +7,10 @@ use Rattle.engine_test.proofs.run.Statement.{statement}
 use Rattle.engine_test.proofs.run.Tie as tie
 use Rattle.engine_test.proofs.run.Reads as reads
 use Rattle.engine_test.proofs.run.Lts as lts
-use Rattle.engine_cases.proofs.line.find.Reads as find-reads
-use Rattle.engine_cases.proofs.line.lend.Reads as lend-reads
-use Rattle.engine_cases.proofs.line.letter_of.Reads as letter-of-reads
-use Rattle.engine_cases.proofs.print.text.Reads as text-reads
+use Rattle.cases.proofs.line.find.Reads as find-reads
+use Rattle.cases.proofs.line.lend.Reads as lend-reads
+use Rattle.cases.proofs.line.letter_of.Reads as letter-of-reads
+use Rattle.cases.proofs.print.text.Reads as text-reads
 use Rattle.engine_test.proofs.step.Reads as step-reads
 
 abbrev Inv-loop : tie.InvT-loop

@@ -10,7 +10,7 @@ use Prim.Native.Nat.{ℕ, _+_, _<_}
 use native.Mathlib.Omega.{arith}
 use mathlib.Core.Path.{_≡_, refl, sym, _∙_, ap, ap₂, subst}
 use Rattle.filing.proofs.Filed as Filed
-use Rattle.deeds.proofs.Stores as Stores
+use Rattle.answers.proofs.Stores as Stores
 use borrow.Author.Needs.{needs}
 use Rattle.filing.proofs.file_at.Statement.{statement}
 use Rattle.filing.proofs.file_at.Tie as tie

@@ -8,8 +8,8 @@ use mathlib.Core.Path.{_≡_, refl, sym, _∙_, ap, ap₂, subst}
 use Rattle.filing.proofs.Filed as Filed
 use Rattle.layout.specs.Place.{nowhere, place, placeIn, numbers}
 use Rattle.soundness.proofs.Locations as Locations
-use Rattle.deeds.proofs.Outcomes as Outcomes
-use Rattle.deeds.proofs.Stores as Stores
+use Rattle.answers.proofs.Outcomes as Outcomes
+use Rattle.answers.proofs.Stores as Stores
 use borrow.Author.Needs.{needs}
 use Rattle.filing.proofs.file_nil.Statement.{statement}
 use Rattle.filing.proofs.file_nil.Tie as tie

@@ -2,7 +2,7 @@
 -- Assumes nothing.
 use Rattle.calendar.specs.Slots.{slotOf}
 use mathlib.Core.Path.{_≡_, refl, sym, _∙_, ap, ap₂, subst}
-use Rattle.deeds.proofs.Stores as Stores
+use Rattle.answers.proofs.Stores as Stores
 use borrow.Author.Needs.{needs}
 use Rattle.filing.proofs.slot_in.Statement.{statement}
 use Rattle.filing.proofs.slot_in.Tie as tie

@@ -7,7 +7,7 @@ use denote.Ref.{now}
 use lib.ListN.{length, getD}
 use Rattle.buffer.proofs.Ascending.{numberBefore}
 use Rattle.buffer.proofs.Passed.{Passed, none, more, whole, stopped}
-use Rattle.opening.proofs.Fresh.{stationInOrder, listed-in-turn}
+use Rattle.opening.proofs.Listed.{stationInOrder, listed-in-turn}
 use borrow.Author.Needs.{needs}
 use Rattle.opening.proofs.open.are_listed.Statement.{statement}
 use Rattle.opening.proofs.open.are_listed.Tie as tie

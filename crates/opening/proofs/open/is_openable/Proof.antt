@@ -5,7 +5,7 @@ use Rattle.layout.specs.Opening.{openable}
 use mathlib.Core.Path.{sym, _∙_}
 use borrow.Author.Tests.{not-true, not-false}
 use denote.Ref.{now}
-use Rattle.opening.proofs.Fresh.{sized}
+use Rattle.opening.proofs.Listed.{sized}
 use borrow.Author.Needs.{needs}
 use Rattle.opening.proofs.open.is_openable.Statement.{statement}
 use Rattle.opening.proofs.open.is_openable.Tie as tie

@@ -1,0 +1,2 @@
+-- A day line as arrays of numbers.
+pub mod Arrays

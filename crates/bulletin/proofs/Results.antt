@@ -1,0 +1,105 @@
+-- What the whole text of a bulletin gives, by its heading and the reports behind it.
+-- Assumes nothing.
+use mathlib.Core.Path.{_≡_, refl, sym, _∙_, ap, subst}
+use mathlib.Core.Bool.{Bool, true, false, cond, _&&_}
+use mathlib.Core.List.{List, [], _∷_, map}
+use mathlib.Core.Logic.{⊎-elim}
+use Prim.Native.Nat.{ℕ, zero, suc, _-_, _≤_}
+use native.Mathlib.Nat.{eq-or-lt-of-le}
+use native.Mathlib.Omega.{arith}
+use lib.Dec.{leb}
+use borrow.Author.Tests.{leb-true}
+use Rattle.laws.proofs.Bools.{and-right}
+use lib.ListN.{length, take, drop}
+use lib.Seq.{length-take-le}
+use Rattle.layout.specs.Sound.{sound}
+use Rattle.text.specs.Groups.{groups}
+use Rattle.text.specs.Walk.{part}
+use Rattle.bulletin_text.specs.declared.Heading.{Heading}
+use Rattle.bulletin_text.specs.declared.Heading.the-variants.{Timed}
+use Rattle.bulletin_text.specs.Heading.{headingIn, Begins}
+use Rattle.bulletin_text.specs.Pieces.{pieces, parted}
+use Rattle.bulletin_text.specs.Rebuilt.{heading}
+use Rattle.bulletin_text.specs.Walk.{Reached}
+use Rattle.bulletin_text.proofs.Cuts.{piece-here, piece-last}
+use Rattle.bulletin.specs.declared.BulletinReply.{BulletinReply}
+use Rattle.bulletin.specs.declared.BulletinReply.the-variants as reply
+use Rattle.bulletin.specs.declared.Tally.{Tally}
+use Rattle.bulletin.specs.Bulletin.{Result, headed, under, result, Gave, Tallied, filings, atFirst, counts, unchanged}
+
+pub begins-as : {p : List ℕ} {h k : Heading} {at : ℕ} → h ≡ k → Begins p h at → Begins p k at
+begins-as {p} {h} {k} {at} e b = subst (λ (x : Heading). Begins p x at) e b
+
+-- ---- the whole text
+pub short : (n : ℕ) → (leb 1 n && leb n 16384) ≡ true → n ≤ 16384
+short n e = leb-true n 16384 (and-right (leb 1 n) (leb n 16384) e)
+
+take-none : (n : ℕ) → [] ≡ take {A = ℕ} n []
+take-none zero = refl
+take-none (suc n) = refl
+
+drop-part : (a n : ℕ) (s : List ℕ) → a ≤ n → drop a (take n s) ≡ take (n - a) (drop a s)
+drop-part zero n s h = let z : n ≡ n - 0 = omega arith in ap (λ (k : ℕ). take k s) z
+drop-part (suc a) zero s h = absurd (omega arith)
+drop-part (suc a) (suc n) [] h = take-none (suc n - suc a)
+drop-part (suc a) (suc n) (x ∷ s) h =
+    let z : n - a ≡ suc n - suc a = omega arith in
+    drop-part a n s (omega arith) ∙ ap (λ (k : ℕ). take k (drop a s)) z
+
+module _ {s : List ℕ} {e at : ℕ} {h : Heading} (v : Reached s 0 e) (b : Begins (part s 0 e) h at) where
+  before : at ≤ e
+  before = let u = b .upto in let w = v .upto in omega (arith, length-take-le (e - 0) s (omega (arith, w)))
+
+  later : Reached s at e
+  later = record { from = before; upto = v .upto; none = λ k l g. v .none k l (omega arith); here = v .here }
+
+  rest : drop at (part s 0 e) ≡ part s at e
+  rest =
+      let w = before in
+      let z : (e - 0) - at ≡ e - at = omega arith in
+      drop-part at (e - 0) s (omega (arith, w)) ∙ ap (λ (k : ℕ). take k (drop at s)) z
+
+  begun : (more : List (List (List ℕ))) (t : List ℕ) → headed (groups (part s 0 e) ∷ more) t ≡ under h (groups (drop at (part s 0 e)) ∷ more) t
+  unfolding headed
+  begun more t =
+      ap (λ (k : Heading). under k (drop 2 (groups (part s 0 e)) ∷ more) t) (sym (b .same))
+      ∙ ap (λ (gs : List (List ℕ)). under h (gs ∷ more) t) (sym (b .rest))
+
+  alike : {ps : List (List ℕ)} → pieces [] s ≡ part s 0 e ∷ ps → pieces [] (drop at s) ≡ part s at e ∷ ps → (t : List ℕ)
+      → headed (parted s) t ≡ under h (parted (drop at s)) t
+  alike {ps} x y t =
+      ap (λ (qs : List (List ℕ)). headed (map (λ (p : List ℕ). groups p) qs) t) x ∙ begun (map (λ (p : List ℕ). groups p) ps) t
+      ∙ ap (λ (p : List ℕ). under h (groups p ∷ map (λ (q : List ℕ). groups q) ps) t) rest
+      ∙ sym (ap (λ (qs : List (List ℕ)). under h (map (λ (p : List ℕ). groups p) qs) t) y)
+
+  pub headed-as : (t : List ℕ) → headed (parted s) t ≡ under h (parted (drop at s)) t
+  headed-as t =
+      ⊎-elim (λ q. let l : length s ≤ e = omega (arith, q) in alike (piece-last v l) (piece-last later l) t)
+      (λ l. alike (piece-here v l) (piece-here later l) t) (eq-or-lt-of-le (v .upto))
+
+  pub ready-at : at ≤ length s
+  ready-at = let w = before in let u = v .upto in omega arith
+
+-- ---- the call
+module _ (s t : List ℕ) where
+  pub gave-unsound : sound s ≡ false → Gave (result s t) (reply.Refused 9) s
+  unfolding result
+  gave-unsound e = rw e (record { answer = refl; left = refl })
+
+  pub gave-long : sound s ≡ true → (leb 1 (length t) && leb (length t) 16384) ≡ false → Gave (result s t) (reply.Refused 1) s
+  unfolding result
+  gave-long e f = rw (e, f) (record { answer = refl; left = refl })
+
+  gave : {r : Result} → sound s ≡ true → (leb 1 (length t) && leb (length t) 16384) ≡ true → headed (parted t) s ≡ r → {a : BulletinReply} {u : List ℕ} → Gave r a u
+      → Gave (result s t) a u
+  unfolding result
+  gave e f h g = rw (e, f, h) g
+
+  pub gave-faulty : sound s ≡ true → (leb 1 (length t) && leb (length t) 16384) ≡ true → (n : ℕ) → headed (parted t) s ≡ unchanged n s
+      → Gave (result s t) (reply.Refused n) s
+  gave-faulty e f n h = gave e f h (record { answer = refl; left = refl })
+
+  pub gave-counts : sound s ≡ true → (leb 1 (length t) && leb (length t) 16384) ≡ true → (a b c d e : ℕ) (ps : List (List (List ℕ))) (x : Tally) (u : List ℕ)
+      → headed (parted t) s ≡ under (Timed a b c d e) ps s → Tallied (filings (heading a b c d e) ps (atFirst s)) (x .accepted) (x .refused) u
+      → Gave (result s t) (reply.Counted x) u
+  gave-counts e f a b c d g ps x u h w = gave e f h (record { answer = λ i. counts (w .accepted i) (w .refused i); left = w .left })

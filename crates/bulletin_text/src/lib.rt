@@ -1,0 +1,193 @@
+// The text of bulletins: the heading, the place where each report ends, and a report's text rebuilt with the heading before it.
+ghost use mathlib.Core.Path.{_≡_};
+ghost use mathlib.Core.List.{List, [], _∷_, _++_};
+ghost use Prim.Native.Nat.{ℕ, _≤_};
+ghost use lib.ListN.{length};
+ghost use Rattle.text.specs.Groups.{groups};
+ghost use Rattle.text.specs.Kinds.{onFive};
+ghost use Rattle.text.specs.Characters as characters;
+ghost use Rattle.bulletin_text.specs.declared.Heading.the-variants.{Faulty};
+ghost use Rattle.bulletin_text.specs.Heading.{timeOf, headingOf, Begins};
+ghost use Rattle.bulletin_text.specs.Pieces.{none};
+ghost use Rattle.bulletin_text.specs.Rebuilt.{spaced, heading};
+ghost use Rattle.bulletin_text.specs.Walk.{Reached, Holds, added};
+use places::Place;
+use text::Cursor;
+use text::Group;
+use text::Step;
+
+// A heading: refused with a number, or the characters of YYGGiw.
+pub enum Heading {
+    Faulty(u32),
+    Timed(u8, u8, u8, u8, u8),
+}
+
+// The heading of a bulletin, and where its reports begin.
+pub struct Start {
+    pub heading: Heading,
+    pub at: usize,
+}
+
+// ---- the heading
+
+// YYGGiw by its characters: check 3, then 4.
+fn time_of(a: u8, b: u8, c: u8, d: u8, e: u8) -> Heading
+    ensures { λ r. ⌜ r ≡ timeOf a b c d e ⌝ }
+{
+    let time = Group::Five(a, b, c, d, e);
+    if checks::shaped(Place::Letters, time) {
+        if checks::ranged(Place::Letters, time) {
+            return Heading::Timed(a, b, c, d, e);
+        }
+        return Heading::Faulty(4);
+    }
+    Heading::Faulty(3)
+}
+
+// The group after `AAXX`.
+fn second(g: Group) -> Heading
+    ensures { λ r. ⌜ r ≡ onFive (Faulty 3) timeOf g ⌝ }
+{
+    match g {
+        Group::Other => Heading::Faulty(3),
+        Group::Aaxx => Heading::Faulty(3),
+        Group::Nil => Heading::Faulty(3),
+        Group::Section(_) => Heading::Faulty(3),
+        Group::Five(a, b, c, d, e) => time_of(a, b, c, d, e),
+    }
+}
+
+// The first two groups of a bulletin.
+fn heading_of(g: Group, h: Group) -> Heading
+    ensures { λ r. ⌜ r ≡ headingOf g h ⌝ }
+{
+    if checks::shaped(Place::Start, g) {
+        return second(h);
+    }
+    Heading::Faulty(3)
+}
+
+// The heading that a bulletin's first piece begins with.
+pub fn start_of(piece: &[u8]) -> Start
+    ensures { λ r. ⌜ Begins (now (piece .entry)) (r .heading) (r .at) ⌝ }
+{
+    let Step::Group { start, end, next } = Cursor::new().step(piece) else {
+        return Start {
+            heading: Heading::Faulty(3),
+            at: 0,
+        };
+    };
+    let g = text::kind_of(&piece[start..end]);
+    let Step::Group {
+        start: from,
+        end: to,
+        next: after,
+    } = next.step(piece)
+    else {
+        return Start {
+            heading: Heading::Faulty(3),
+            at: next.at,
+        };
+    };
+    let h = text::kind_of(&piece[from..to]);
+    Start {
+        heading: heading_of(g, h),
+        at: after.at,
+    }
+}
+
+// ---- the reports
+
+// Where the next `=` stands, or the text's end.
+pub fn end_of(s: &[u8], at: usize) -> usize
+    requires { ⌜ at ≤ length (now s) ⌝ }
+    ensures { λ r. ⌜ Reached (now (s .entry)) at r ⌝ }
+{
+    let mut i = at;
+    while i < s.len() {
+        if s[i] == b'=' {
+            return i;
+        }
+        i += 1;
+    }
+    i
+}
+
+// One byte more in a buffer of 512; 513 once there is no room.
+pub fn put(buf: &mut [u8], n: usize, b: u8) -> usize
+    requires { ⌜ length (now buf) ≡ 512 ⌝ }
+    ensures { λ r. ⌜ ((text : List ℕ) → Holds (now (buf .entry)) n text → Holds (now (buf .exit)) r (text ++ b ∷ [])) ⌝ }
+{
+    if 512 <= n {
+        return 513;
+    }
+    buf[n] = b;
+    n + 1
+}
+
+// A character that belongs to no group.
+fn parts(b: u8) -> bool
+    ensures { λ r. ⌜ r ≡ characters.parts b ⌝ }
+{
+    (b == b' ') | (b == b'\r') | (b == b'\n') | (b == b'=')
+}
+
+// One character of a report more: nothing for a blank, and a space before a group's first character.
+fn add(buf: &mut [u8], n: usize, apart: bool, b: u8) -> usize
+    requires { ⌜ length (now buf) ≡ 512 ⌝ }
+    ensures { λ r. ⌜ ((text : List ℕ) → Holds (now (buf .entry)) n text → Holds (now (buf .exit)) r (text ++ added apart b)) ⌝ }
+{
+    if parts(b) {
+        return n;
+    }
+    if apart {
+        let m = put(buf, n, b' ');
+        return put(buf, m, b);
+    }
+    put(buf, n, b)
+}
+
+// The groups of a piece, each after a space, behind the n bytes that the buffer holds.
+pub fn squeeze(buf: &mut [u8], start: usize, piece: &[u8]) -> usize
+    requires { ⌜ length (now buf) ≡ 512 ⌝ }
+    ensures { λ r. ⌜ ((text : List ℕ) → Holds (now (buf .entry)) start text → Holds (now (buf .exit)) r (text ++ spaced (groups (now (piece .entry))))) ⌝ }
+{
+    let mut n = start;
+    let mut apart = true;
+    let mut i = 0;
+    while i < piece.len() {
+        let b = piece[i];
+        n = add(buf, n, apart, b);
+        apart = parts(b);
+        i += 1;
+    }
+    n
+}
+
+// A buffer with the heading in it.
+pub fn begin(a: u8, b: u8, c: u8, d: u8, e: u8) -> [u8; 512]
+    ensures { λ r. ⌜ Holds r 10 (heading a b c d e) ⌝ }
+{
+    let mut buf = [0u8; 512];
+    buf[0] = b'A';
+    buf[1] = b'A';
+    buf[2] = b'X';
+    buf[3] = b'X';
+    buf[4] = b' ';
+    buf[5] = a;
+    buf[6] = b;
+    buf[7] = c;
+    buf[8] = d;
+    buf[9] = e;
+    buf
+}
+
+// Whether a piece has no groups.
+pub fn is_blank(piece: &[u8]) -> bool
+    ensures { λ r. ⌜ r ≡ none (groups (now (piece .entry))) ⌝ }
+{
+    match Cursor::new().step(piece) {
+        Step::End => true,
+        Step::Group { start, end, next } => false,
+    }
+}

@@ -1,0 +1,3 @@
+-- Laws of the printed lines.
+mod Printing
+mod Examples

@@ -1,0 +1,2 @@
+-- Laws of the parts of a report.
+pub mod Laws
