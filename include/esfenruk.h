@@ -1,4 +1,4 @@
-/* The calls on a store of one day, for C. Link libcapi.a (`rt staticlib capi`).
+/* The calls on a store of one day, for C. Link libesfenruk.a (`rt staticlib esfenruk`).
    Each call returns 0 or the refusal's number (1 to 12); a refusal changes no byte of the store and of the arrays. */
 #ifndef ESFENRUK_H
 #define ESFENRUK_H

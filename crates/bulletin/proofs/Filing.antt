@@ -6,17 +6,17 @@ use mathlib.Core.List.{List}
 use Prim.Native.Nat.{ℕ, _-_, _<_}
 use native.Mathlib.Omega.{arith}
 use lib.ListN.{length, take}
-use Rattle.layout.specs.Layout.{decode}
-use Rattle.layout.specs.Sound.{sound}
+use Rattle.store_layout.specs.Layout.{decode}
+use Rattle.store_layout.specs.Sound.{sound}
 use Rattle.synop.specs.Report.{Report}
 use Rattle.rules.specs.Calls.{Answer, refused, isAccepted, file, ask, askFile}
 use Rattle.rules.specs.Step.{Outcome, unchanged, asked, step}
 use Rattle.rules.proofs.Steps.{sound-step}
-use Rattle.rules.proofs.Deeds.{all-lawful}
+use Rattle.rules.proofs.Requests.{all-lawful}
 use Rattle.rules.proofs.Reports.{report-bounds, long-report}
-use Rattle.answers.specs.Good.{Good}
-use Rattle.answers.specs.Replies.{Did}
-use Rattle.answers.proofs.Outcomes.{step-sound}
+use Rattle.engine_answers.specs.Good.{Good}
+use Rattle.engine_answers.specs.Replies.{Did}
+use Rattle.engine_answers.proofs.Outcomes.{step-sound}
 use Rattle.bulletin_text.specs.Rebuilt.{rebuilt}
 use Rattle.bulletin.specs.Bulletin.{Filed}
 

@@ -7,9 +7,9 @@ use Prim.Native.Nat.{ℕ, _+_, _-_, _<_, _≤_}
 use native.Mathlib.Omega.{arith}
 use lib.Dec.{eqb}
 use lib.ListN.{length, drop}
-use Rattle.text.specs.Groups.{groups}
-use Rattle.text.specs.Walk.{part}
-use Rattle.layout.specs.Sound.{sound}
+use Rattle.synop_text.specs.Groups.{groups}
+use Rattle.synop_text.specs.Walk.{part}
+use Rattle.store_layout.specs.Sound.{sound}
 use Rattle.rules.specs.Calls.{file}
 use Rattle.rules.specs.Step.{step}
 use Rattle.bulletin_text.specs.Rebuilt.{rebuilt}

@@ -12,9 +12,9 @@ use borrow.Author.Tests.{leb-true}
 use Rattle.laws.proofs.Bools.{and-right}
 use lib.ListN.{length, take, drop}
 use lib.Seq.{length-take-le}
-use Rattle.layout.specs.Sound.{sound}
-use Rattle.text.specs.Groups.{groups}
-use Rattle.text.specs.Walk.{part}
+use Rattle.store_layout.specs.Sound.{sound}
+use Rattle.synop_text.specs.Groups.{groups}
+use Rattle.synop_text.specs.Walk.{part}
 use Rattle.bulletin_text.specs.declared.Heading.{Heading}
 use Rattle.bulletin_text.specs.declared.Heading.the-variants.{Timed}
 use Rattle.bulletin_text.specs.Heading.{headingIn, Begins}

@@ -6,7 +6,7 @@ use mathlib.Core.List.{List, [], _∷_}
 use Prim.Native.Nat.{ℕ, _+_, _≤_}
 use lib.Dec.{leb}
 use lib.ListN.{length, drop}
-use Rattle.layout.specs.Sound.{sound}
+use Rattle.store_layout.specs.Sound.{sound}
 use Rattle.rules.specs.Calls.{isAccepted, file}
 use Rattle.rules.specs.Step.{Outcome, step}
 use Rattle.bulletin_text.specs.Pieces.{parted, none}

@@ -3,12 +3,11 @@
 ghost use mathlib.Core.Path.{_≡_};
 ghost use mathlib.Core.Bool.{true, cond};
 ghost use lib.ListN.{drop};
-ghost use Rattle.text.specs.Groups.{groups};
-ghost use Rattle.layout.specs.Sound.{sound};
+ghost use Rattle.synop_text.specs.Groups.{groups};
+ghost use Rattle.store_layout.specs.Sound.{sound};
 ghost use Rattle.bulletin_text.specs.Pieces.{parted};
 ghost use Rattle.bulletin_text.specs.Rebuilt.{heading};
 ghost use Rattle.bulletin.specs.Bulletin.{Filed, filings, atFirst, Tallied, Ready, result, Gave};
-use answers::Reply;
 use bulletin_text::Heading;
 use bulletin_text::begin;
 use bulletin_text::end_of;
@@ -16,6 +15,7 @@ use bulletin_text::is_blank;
 use bulletin_text::put;
 use bulletin_text::squeeze;
 use bulletin_text::start_of;
+use engine_answers::Reply;
 
 // The reports that were accepted, and those that were refused.
 pub struct Tally {
@@ -103,7 +103,7 @@ fn file_reports(
 pub fn bulletin(store: &mut [u8], text: &[u8]) -> BulletinReply
     ensures { λ r. ⌜ Gave (result (now (store .entry)) (now (text .entry))) r (now (store .exit)) ⌝ }
 {
-    if !soundness::sound::is_sound(store) {
+    if !store_soundness::sound::is_sound(store) {
         return BulletinReply::Refused(9);
     }
     let fits = (1 <= text.len()) & (text.len() <= 16384);

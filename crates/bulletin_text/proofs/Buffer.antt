@@ -10,8 +10,8 @@ use native.Mathlib.Numerals.{add-one}
 use native.Mathlib.Omega.{arith}
 use lib.ListN.{length, take, drop, set, getD, length-set, length-append, drop-of-length-le}
 use lib.Seq.{take-suc-set, length-take-le, drop-cons}
-use Rattle.text.specs.Characters.{parts}
-use Rattle.text.specs.Groups.{cut, closed, groups}
+use Rattle.synop_text.specs.Characters.{parts}
+use Rattle.synop_text.specs.Groups.{cut, closed, groups}
 use Rattle.bulletin_text.specs.Rebuilt.{spaced}
 use Rattle.bulletin_text.specs.Walk.{Holds, added}
 

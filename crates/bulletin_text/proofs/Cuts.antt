@@ -11,10 +11,10 @@ use borrow.Author.Tests.{eq-eqb, ne-eqb}
 use Rattle.laws.proofs.Bools.{cond-true, cond-false}
 use lib.ListN.{length, take, drop, getD, length-drop, drop-of-length-le}
 use lib.Seq.{getD-drop, drop-drop, drop-cons}
-use Rattle.text.specs.Walk.{part}
+use Rattle.synop_text.specs.Walk.{part}
 use Rattle.bulletin_text.specs.Pieces.{pieces, none}
 use Rattle.bulletin_text.proofs.Buffer.{assoc, right-none}
-use Rattle.text.specs.Groups.{groups}
+use Rattle.synop_text.specs.Groups.{groups}
 use Rattle.bulletin_text.specs.Walk.{Reached}
 
 -- no `=` from `at` to i

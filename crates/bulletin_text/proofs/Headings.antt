@@ -6,12 +6,12 @@ use mathlib.Core.List.{List, [], _∷_}
 use Prim.Native.Nat.{ℕ, _≤_}
 use native.Mathlib.Omega.{arith}
 use lib.ListN.{length, drop}
-use Rattle.text.specs.Groups.{groups}
-use Rattle.text.specs.Kinds.{kindOf, onFive}
-use Rattle.text.specs.Walk.{part, Bounds}
-use Rattle.text.specs.declared.Group.{Group}
-use Rattle.checks.specs.Shapes.{isAaxx, areDigits}
-use Rattle.checks.specs.Ranges.{isTime}
+use Rattle.synop_text.specs.Groups.{groups}
+use Rattle.synop_text.specs.Kinds.{kindOf, onFive}
+use Rattle.synop_text.specs.Walk.{part, Bounds}
+use Rattle.synop_text.specs.declared.Group.{Group}
+use Rattle.synop_checks.specs.Shapes.{isAaxx, areDigits}
+use Rattle.synop_checks.specs.Ranges.{isTime}
 use Rattle.bulletin_text.specs.declared.Heading.{Heading}
 use Rattle.bulletin_text.specs.declared.Heading.the-variants.{Faulty, Timed}
 use Rattle.bulletin_text.specs.Heading.{timeOf, headingOf, headingIn, Begins}

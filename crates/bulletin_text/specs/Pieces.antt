@@ -4,7 +4,7 @@ use mathlib.Core.Bool.{Bool, true, false, cond}
 use mathlib.Core.List.{List, [], _∷_, _++_, map}
 use Prim.Native.Nat.{ℕ}
 use lib.Dec.{eqb}
-use Rattle.text.specs.Groups.{groups}
+use Rattle.synop_text.specs.Groups.{groups}
 
 -- "reports .., each ended by `=`": the characters before each `=`, and last those after the last one, of a text of which `run` has been
 -- read of the piece under way

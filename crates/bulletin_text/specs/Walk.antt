@@ -5,7 +5,7 @@ use mathlib.Core.Bool.{Bool, cond}
 use mathlib.Core.List.{List, [], _∷_}
 use Prim.Native.Nat.{ℕ, _<_, _≤_}
 use lib.ListN.{length, take, getD}
-use Rattle.text.specs.Characters.{parts}
+use Rattle.synop_text.specs.Characters.{parts}
 
 -- the first `=` from `at` on stands at i, or there is none and i is the end
 pub record Reached (s : List ℕ) (at i : ℕ) : Type 0 where

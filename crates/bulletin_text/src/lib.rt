@@ -3,18 +3,18 @@ ghost use mathlib.Core.Path.{_≡_};
 ghost use mathlib.Core.List.{List, [], _∷_, _++_};
 ghost use Prim.Native.Nat.{ℕ, _≤_};
 ghost use lib.ListN.{length};
-ghost use Rattle.text.specs.Groups.{groups};
-ghost use Rattle.text.specs.Kinds.{onFive};
-ghost use Rattle.text.specs.Characters as characters;
+ghost use Rattle.synop_text.specs.Groups.{groups};
+ghost use Rattle.synop_text.specs.Kinds.{onFive};
+ghost use Rattle.synop_text.specs.Characters as characters;
 ghost use Rattle.bulletin_text.specs.declared.Heading.the-variants.{Faulty};
 ghost use Rattle.bulletin_text.specs.Heading.{timeOf, headingOf, Begins};
 ghost use Rattle.bulletin_text.specs.Pieces.{none};
 ghost use Rattle.bulletin_text.specs.Rebuilt.{spaced, heading};
 ghost use Rattle.bulletin_text.specs.Walk.{Reached, Holds, added};
-use places::Place;
-use text::Cursor;
-use text::Group;
-use text::Step;
+use synop_order::Place;
+use synop_text::Cursor;
+use synop_text::Group;
+use synop_text::Step;
 
 // A heading: refused with a number, or the characters of YYGGiw.
 pub enum Heading {
@@ -35,8 +35,8 @@ fn time_of(a: u8, b: u8, c: u8, d: u8, e: u8) -> Heading
     ensures { λ r. ⌜ r ≡ timeOf a b c d e ⌝ }
 {
     let time = Group::Five(a, b, c, d, e);
-    if checks::shaped(Place::Letters, time) {
-        if checks::ranged(Place::Letters, time) {
+    if synop_checks::shaped(Place::Letters, time) {
+        if synop_checks::ranged(Place::Letters, time) {
             return Heading::Timed(a, b, c, d, e);
         }
         return Heading::Faulty(4);
@@ -61,7 +61,7 @@ fn second(g: Group) -> Heading
 fn heading_of(g: Group, h: Group) -> Heading
     ensures { λ r. ⌜ r ≡ headingOf g h ⌝ }
 {
-    if checks::shaped(Place::Start, g) {
+    if synop_checks::shaped(Place::Start, g) {
         return second(h);
     }
     Heading::Faulty(3)
@@ -77,7 +77,7 @@ pub fn start_of(piece: &[u8]) -> Start
             at: 0,
         };
     };
-    let g = text::kind_of(&piece[start..end]);
+    let g = synop_text::kind_of(&piece[start..end]);
     let Step::Group {
         start: from,
         end: to,
@@ -89,7 +89,7 @@ pub fn start_of(piece: &[u8]) -> Start
             at: next.at,
         };
     };
-    let h = text::kind_of(&piece[from..to]);
+    let h = synop_text::kind_of(&piece[from..to]);
     Start {
         heading: heading_of(g, h),
         at: after.at,

@@ -7,7 +7,7 @@ use lib.IntN.{ℤ}
 use Rattle.quality.specs.Cell.{Cell}
 use Rattle.quality.specs.Elements.{column, temperature, dewPoint, pressure, wind, cloud, rain}
 use Rattle.daily.specs.Means.{Average, average, vapourColumn}
-use Rattle.daily.specs.Rain.{total}
+use Rattle.daily.specs.Rain.{rainTotal}
 use Rattle.daily.specs.Extremes as Extremes
 use Rattle.daily.specs.Counts.{count}
 
@@ -35,7 +35,7 @@ dayLine tRs s =
       wind = average (column s wind);
       cloud = average (column s cloud);
       vapour = average (vapourColumn (column s dewPoint));
-      rain = total tRs (column s rain);
+      rain = rainTotal tRs (column s rain);
       warmest = Extremes.warmest (column s temperature);
       coldest = Extremes.coldest (column s temperature);
       read = count 1 s;

@@ -7,8 +7,8 @@ use Rattle.quality.specs.Cell.{Cell, missing}
 
 -- x is beyond y: warmer, or else colder
 abbrev pub beyond : Bool → ℤ → ℤ → Bool
-beyond warm x y = cond warm (ltZ y x) (ltZ x y)
+beyond warmer x y = cond warmer (ltZ y x) (ltZ x y)
 
 -- the cell x is there, and y is missing or x is beyond it
 abbrev pub ahead : Bool → Cell → Cell → Bool
-ahead warm x y = not (missing x) && (missing y || beyond warm (x .value) (y .value))
+ahead warmer x y = not (missing x) && (missing y || beyond warmer (x .value) (y .value))

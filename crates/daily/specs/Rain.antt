@@ -26,5 +26,5 @@ half tRs rs first last =
     (cond (eqb (getD tRs first 0) 1 && eqb (getD tRs last 0) 1) (together (amount rs first) (amount rs last)) none)
 
 -- "First half: slot 4 with tR 2, else slots 2 and 4 both tR 1. Second: slot 8 with tR 2, else slots 6 and 8 both tR 1."
-unfoldable pub total : List ℕ → List Cell → Option ℤ
-total tRs rs = cond (eqb (getD tRs 8 0) 4) (amount rs 8) (together (half tRs rs 2 4) (half tRs rs 6 8))
+unfoldable pub rainTotal : List ℕ → List Cell → Option ℤ
+rainTotal tRs rs = cond (eqb (getD tRs 8 0) 4) (amount rs 8) (together (half tRs rs 2 4) (half tRs rs 6 8))

@@ -10,45 +10,45 @@ ghost use Rattle.daily.specs.Extremes.{earliest, utmost};
 ghost use Rattle.daily.specs.Parts as Parts;
 use crate::Extreme;
 use quality::column::Column;
-use quality::column::Datum;
+use quality::column::OffsetCell;
 use quality::column::at;
 
 // x is beyond y, both in offset binary: warmer, or else colder.
-fn beyond(warm: bool, x: u16, y: u16) -> bool
-    ensures { λ r. ⌜ r ≡ Parts.beyond warm (Offset.value x) (Offset.value y) ⌝ }
+fn beyond(warmer: bool, x: u16, y: u16) -> bool
+    ensures { λ r. ⌜ r ≡ Parts.beyond warmer (Offset.value x) (Offset.value y) ⌝ }
 {
-    if warm {
+    if warmer {
         return y < x;
     }
     x < y
 }
 
 // x is there, and y is missing or x is beyond it.
-fn ahead(warm: bool, x: Datum, y: Datum) -> bool
-    ensures { λ r. ⌜ r ≡ Parts.ahead warm (cell x) (cell y) ⌝ }
+fn ahead(warmer: bool, x: OffsetCell, y: OffsetCell) -> bool
+    ensures { λ r. ⌜ r ≡ Parts.ahead warmer (cell x) (cell y) ⌝ }
 {
-    (x.state != 0) & ((y.state == 0) | beyond(warm, x.value, y.value))
+    (x.state != 0) & ((y.state == 0) | beyond(warmer, x.value, y.value))
 }
 
 // Slot k where it is ahead of the best so far, else that one.
-fn better(warm: bool, t: Column, best: usize, k: usize) -> usize
+fn better(warmer: bool, t: Column, best: usize, k: usize) -> usize
     requires { ⌜ best < 9 ⌝ }
     requires { ⌜ k < 9 ⌝ }
-    ensures { λ r. ⌜ r ≡ cond (Parts.ahead warm (Cell.slot (cells t) k) (Cell.slot (cells t) best)) k best ⌝ }
+    ensures { λ r. ⌜ r ≡ cond (Parts.ahead warmer (Cell.slot (cells t) k) (Cell.slot (cells t) best)) k best ⌝ }
 {
-    if ahead(warm, at(t, k), at(t, best)) {
+    if ahead(warmer, at(t, k), at(t, best)) {
         return k;
     }
     best
 }
 
 // The warmest slot among 0 to 7, or else the coldest, the earliest on ties.
-pub fn extreme(t: Column, warm: bool) -> Extreme
-    ensures { λ r. ⌜ r ≡ slotOf (earliest (utmost (Parts.beyond warm) (cells t)) 8) ⌝ }
+pub fn extreme(t: Column, warmer: bool) -> Extreme
+    ensures { λ r. ⌜ r ≡ slotOf (earliest (utmost (Parts.beyond warmer) (cells t)) 8) ⌝ }
 {
     let mut best = 0;
     for k in 1..8 {
-        best = better(warm, t, best, k);
+        best = better(warmer, t, best, k);
     }
     let d = at(t, best);
     if d.state == 0 {

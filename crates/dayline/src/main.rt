@@ -15,8 +15,8 @@ use dayline_filing::tail;
 use dayline_input::first_line;
 use dayline_input::read;
 use dayline_print::refused_text;
-use dayline_text::line::Opening;
-use dayline_text::line::opened;
+use dayline_text::first_line::Opening;
+use dayline_text::first_line::opened;
 
 // ---- the input
 

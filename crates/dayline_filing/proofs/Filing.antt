@@ -11,13 +11,13 @@ use native.Mathlib.Omega.{arith}
 use lib.ListN.{length, take, getD}
 use lib.Seq.{take-all, take-suc, take-nil, length-take-le}
 use Rattle.laws.proofs.Bools.{and-eq}
-use Rattle.layout.specs.Layout.{decode}
-use Rattle.layout.specs.Sound.{sound}
+use Rattle.store_layout.specs.Layout.{decode}
+use Rattle.store_layout.specs.Sound.{sound}
 use Rattle.synop.specs.Report.{Report}
 use Rattle.rules.specs.Calls.{Answer, refused, isAccepted, file, ask, askFile}
 use Rattle.rules.proofs.Reports.{long-report}
 use Rattle.rules.specs.Step.{Outcome, unchanged, asked, step}
-use Rattle.answers.specs.Replies.{Did}
+use Rattle.engine_answers.specs.Replies.{Did}
 use Rattle.dayline_text.specs.Cuts.{Kept, Adds, isBlank}
 use Rattle.dayline_filing.specs.declared.Progress.{Progress}
 use Rattle.dayline_filing.specs.Reports.{reports, rest, allBlank, tail, inputReports}

@@ -9,8 +9,8 @@ use lib.ListN.{take}
 use Rattle.laws.proofs.Bools.{cond-true, cond-false}
 use Rattle.dayline_text.specs.FirstLine.{First, cannotOpen, opens}
 use Rattle.dayline_text.specs.Line.{told}
-use Rattle.dayline_text.specs.declared.line.Opening.{Opening}
-use Rattle.answers.specs.Replies.{Did, openOutcome}
+use Rattle.dayline_text.specs.declared.first_line.Opening.{Opening}
+use Rattle.engine_answers.specs.Replies.{Did, openOutcome}
 use Rattle.rules.specs.Calls.{Answer, isAccepted}
 use Rattle.dayline_filing.specs.Opening.{opening, OpenedBy}
 

@@ -8,9 +8,9 @@ use lib.ListN.{length, take}
 use Rattle.daily.specs.Coded.{Says}
 use Rattle.daily.specs.Line as Line
 use Rattle.daily.specs.declared.DayLine.{DayLine}
-use Rattle.answers.specs.Replies.{SaysDay}
-use Rattle.answers.specs.declared.DayReply.{DayReply}
-use Rattle.answers.specs.declared.DayReply.the-variants as ofDay
+use Rattle.engine_answers.specs.Replies.{SaysDay}
+use Rattle.engine_answers.specs.declared.DayReply.{DayReply}
+use Rattle.engine_answers.specs.declared.DayReply.the-variants as ofDay
 use Rattle.rules.specs.Calls.{Answer, refused, accepted, aCell, aDay, day}
 use Rattle.rules.specs.Step.{step}
 use Rattle.dayline_print.specs.Printed.{stationText, dayText, Shows}

@@ -4,8 +4,8 @@ use mathlib.Core.Bool.{Bool}
 use mathlib.Core.List.{List}
 use Rattle.dayline_text.specs.FirstLine.{First, cannotOpen, opens}
 use Rattle.dayline_text.specs.Line.{told}
-use Rattle.dayline_text.specs.declared.line.Opening.{Opening}
-use Rattle.answers.specs.Replies.{openOutcome}
+use Rattle.dayline_text.specs.declared.first_line.Opening.{Opening}
+use Rattle.engine_answers.specs.Replies.{openOutcome}
 use Rattle.rules.specs.Calls.{refused}
 use Rattle.rules.specs.Step.{Outcome, unchanged}
 use Rattle.rules.specs.Calls.{isAccepted}

@@ -7,12 +7,12 @@ ghost use Rattle.dayline_text.specs.Cuts.{Kept};
 ghost use Rattle.dayline_filing.specs.Filing.{Begun, Room, Filed, Ended, Under, Feeds, more as Filing·more};
 ghost use Rattle.dayline_filing.specs.Opening.{OpenedBy};
 ghost use Rattle.dayline_filing.specs.Printed.{Printed};
-use answers::DayReply;
-use answers::Reply;
 use dayline_print::day_text;
 use dayline_text::cut::is_blank;
 use dayline_text::cut::put;
-use dayline_text::line::Opening;
+use dayline_text::first_line::Opening;
+use engine_answers::DayReply;
+use engine_answers::Reply;
 
 // A store opened by what the first line said: whether it was.
 pub fn open(store: &mut [u8], o: Opening) -> bool

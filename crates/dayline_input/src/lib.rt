@@ -2,8 +2,8 @@
 ghost use Rattle.io.specs.Counts.{Counts};
 ghost use Rattle.dayline_input.specs.Input.{Placed};
 use dayline_text::cut::find;
-use dayline_text::line;
-use dayline_text::line::Line;
+use dayline_text::first_line;
+use dayline_text::first_line::Line;
 
 // What a read gave: so many bytes, none at the input's end; or it failed.
 pub struct Got {
@@ -35,13 +35,13 @@ pub struct Start {
 pub fn first_line(piece: &mut [u8]) -> Start
     ensures { λ r. ⌜ Placed (now (piece .exit)) (r .from) (r .got) ⌝ }
 {
-    let mut l = line::new();
+    let mut l = first_line::new();
     let mut turns = u64::MAX;
     while turns > 0 {
         let got = read(piece);
         let n = got.count;
         let k = find(&piece[..n], b'\n');
-        l = line::piece(l, &piece[..k]);
+        l = first_line::piece(l, &piece[..k]);
         if k < n {
             return Start {
                 line: l,

@@ -11,9 +11,9 @@ use lib.Dec.{leb, eqb}
 use lib.ListN.{length, take, drop, set, getD, length-append, drop-of-length-le}
 use lib.Seq.{take-all, take-suc-set, drop-cons}
 use Rattle.laws.proofs.Bools.{and-true, and-left, and-right, and-false-left, and-false-right, via}
-use Rattle.text.specs.Characters.{isDigit}
+use Rattle.synop_text.specs.Characters.{isDigit}
 use Rattle.dayline_text.specs.Cuts.{isBlank}
-use Rattle.dayline_text.specs.declared.line.Line.{Line}
+use Rattle.dayline_text.specs.declared.first_line.Line.{Line}
 use Rattle.dayline_text.specs.FirstLine.{First, cannotOpen, first, firstLine, isWhole, isPlain, closed, grown, numbersFrom}
 use Rattle.dayline_text.specs.Line.{isGood, with, goes, Ended}
 

@@ -13,7 +13,7 @@ use lib.Seq.{length-take-le, getD-take}
 use Rattle.laws.specs.Table.{table}
 use Rattle.laws.proofs.Bools.{Known, is-true, is-false, known, cond-true, cond-false, and-true, and-left, and-right, and-false-left, and-false-right}
 use Rattle.laws.proofs.Tables.{table-ext}
-use Rattle.dayline_text.specs.declared.line.Line.{Line}
+use Rattle.dayline_text.specs.declared.first_line.Line.{Line}
 use Rattle.dayline_text.specs.FirstLine.{First, cannotOpen, opens, opened, first, isWhole, pairs, station, row, closed, isPlain, numbersFrom}
 use Rattle.dayline_text.specs.Line.{isGood, with, goes, told, Ended, Opens}
 

@@ -5,7 +5,7 @@ use mathlib.Core.List.{List, [], _∷_}
 use lib.Dec.{eqb, leb}
 use lib.ListN.{length, getD}
 use Rattle.laws.specs.Table.{table}
-use Rattle.text.specs.Characters.{isDigit}
+use Rattle.synop_text.specs.Characters.{isDigit}
 use Rattle.dayline_text.specs.Cuts.{isBlank}
 
 -- digits and blanks alone

@@ -5,8 +5,8 @@ use mathlib.Core.List.{List, [], _++_}
 use mathlib.Core.Path.{_≡_}
 use lib.Dec.{eqb, leb}
 use lib.ListN.{length, take}
-use Rattle.dayline_text.specs.declared.line.Line.{Line}
-use Rattle.dayline_text.specs.declared.line.Opening.{Opening}
+use Rattle.dayline_text.specs.declared.first_line.Line.{Line}
+use Rattle.dayline_text.specs.declared.first_line.Opening.{Opening}
 use Rattle.dayline_text.specs.FirstLine.{First, cannotOpen, opens, first, closed, isPlain, numbersFrom}
 
 -- no byte and no number too many has spoilt it

@@ -1,3 +1,3 @@
 // The text that the program `dayline` reads, over slices: its first line, and the cut of its reports.
 pub mod cut;
-pub mod line;
+pub mod first_line;

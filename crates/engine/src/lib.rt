@@ -1,17 +1,17 @@
 // The calls on a store of one day: open, file, settle, cell, day. No call has a `requires`: each answers on every buffer and argument, and
 // its contract gives the whole answer and every byte of the store at exit.
 ghost use mathlib.Core.Path.{_≡_};
-ghost use Rattle.layout.specs.Layout.{decode};
+ghost use Rattle.store_layout.specs.Layout.{decode};
 ghost use Rattle.rules.specs.Calls as Calls;
-ghost use Rattle.answers.specs.Good.{Good};
-ghost use Rattle.answers.specs.Replies.{reply, cellReply, SaysDay, Did, openOutcome};
+ghost use Rattle.engine_answers.specs.Good.{Good};
+ghost use Rattle.engine_answers.specs.Replies.{reply, cellReply, SaysDay, Did, openOutcome};
 ghost use Rattle.rules.specs.Step.{asked, step};
-use answers::CellReply;
-use answers::DayReply;
-use answers::Reply;
-use soundness::find::Located;
-use soundness::find::find;
-use soundness::find::locate;
+use engine_answers::CellReply;
+use engine_answers::DayReply;
+use engine_answers::Reply;
+use store_soundness::find::Located;
+use store_soundness::find::find;
+use store_soundness::find::locate;
 use synop::Report;
 
 // A store opened for a date and stations, each with its climate row: refused 10.
@@ -25,7 +25,7 @@ pub fn open(
 ) -> Reply
     ensures { λ r. ⌜ Did (openOutcome (now (store .entry)) year month day (now (stations .entry)) (now (rows .entry))) (reply r) (now (store .exit)) ⌝ }
 {
-    if opening::open::open(store, year, month, day, stations, rows) {
+    if store_opening::open::open(store, year, month, day, stations, rows) {
         return Reply::Accepted;
     }
     Reply::Refused(10)
@@ -38,8 +38,8 @@ pub fn file_in(store: &mut [u8], text: &[u8]) -> Reply
 {
     match synop::read(text) {
         Report::Refused(n) => Reply::Refused(n as u32),
-        Report::Nil(h) => filing::file_nil(store, h),
-        Report::Whole(h, head, values) => filing::file_whole(store, h, head, values),
+        Report::Nil(h) => engine_filing::file_nil(store, h),
+        Report::Whole(h, head, values) => engine_filing::file_whole(store, h, head, values),
     }
 }
 
@@ -47,7 +47,7 @@ pub fn file_in(store: &mut [u8], text: &[u8]) -> Reply
 pub fn file(store: &mut [u8], text: &[u8]) -> Reply
     ensures { λ r. ⌜ Did (step (Calls.file (now (text .entry))) (now (store .entry))) (reply r) (now (store .exit)) ⌝ }
 {
-    if !soundness::sound::is_sound(store) {
+    if !store_soundness::sound::is_sound(store) {
         return Reply::Refused(9);
     }
     file_in(store, text)
@@ -60,8 +60,8 @@ pub fn settle(store: &mut [u8], station: u32) -> Reply
     match locate(store, station) {
         Located::Unsound => Reply::Refused(9),
         Located::Absent => Reply::Refused(6),
-        Located::At(place) => {
-            settling::settle_at(store, place);
+        Located::At(index) => {
+            engine_settling::settle_at(store, index);
             Reply::Accepted
         }
     }
@@ -74,7 +74,7 @@ pub fn cell(store: &[u8], station: u32, element: u32, slot: u32) -> CellReply
     match locate(store, station) {
         Located::Unsound => CellReply::Refused(9),
         Located::Absent => CellReply::Refused(6),
-        Located::At(place) => asking::cell_at(store, place, element, slot),
+        Located::At(index) => engine_reading::give_cell(store, index, element, slot),
     }
 }
 
@@ -85,6 +85,6 @@ pub fn day(store: &[u8], station: u32) -> DayReply
     match locate(store, station) {
         Located::Unsound => DayReply::Refused(9),
         Located::Absent => DayReply::Refused(6),
-        Located::At(place) => asking::day_at(store, place),
+        Located::At(index) => engine_reading::give_day(store, index),
     }
 }

@@ -12,7 +12,7 @@ pub fn wide(x: u8) -> usize
 }
 
 // n − offset: from offset binary to a signed number.
-pub fn less(n: u32, offset: u32) -> i32
+pub fn difference(n: u32, offset: u32) -> i32
     requires { ⌜ n < 1048576 ⌝ }
     requires { ⌜ offset < 1048576 ⌝ }
     ensures { λ r. ⌜ r ≡ subℕ n offset ⌝ }

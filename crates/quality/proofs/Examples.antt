@@ -6,7 +6,7 @@ use lib.IntN.{ℤ, pos, negℤ}
 use Rattle.quality.specs.Cell.{Cell, none, discarded, flagged}
 use Rattle.quality.specs.Elements.{temperature}
 use Rattle.quality.specs.Limits.{limits}
-use Rattle.quality.specs.Steps.{rangeCell, oddCell, timeCell, fillCell}
+use Rattle.quality.specs.Steps.{rangeCell, spikeCell, timeCell, fillCell}
 
 -- a cell as a report leaves it
 abbrev pub reading : ℤ → Cell
@@ -19,7 +19,7 @@ fill-of-5-4 = refl
 
 -- "T 60, −70, 80 mends to 70"
 pub mends-to-70 : timeCell true (reading (pos 60)) (reading (negℤ (pos 70))) (reading (pos 80)) ≡ record { state = 2; flag = 3; value = pos 70 }
-unfolding timeCell oddCell
+unfolding timeCell spikeCell
 mends-to-70 = refl
 
 -- "while 60, 161, 61 keeps 161"

@@ -18,7 +18,7 @@ use Rattle.laws.proofs.Offset.{size-negative, size-middle}
 use Rattle.quality.specs.Cell.{Cell, missing, discarded, flagged, slot, none}
 use Rattle.quality.specs.Elements.{column, temperature, dewPoint, pressure, wind, maximum, minimum}
 use Rattle.quality.specs.Limits.{Limits, limits}
-use Rattle.quality.specs.Steps.{rangeCell, dewCell, windCell, isZero, far, near, crossed, oddCell, timeCell, fillCell, between, rangeColumn, dewColumn, windColumn, suspectAt}
+use Rattle.quality.specs.Steps.{rangeCell, dewCell, windCell, isZero, far, near, maximumBelowMinimum, spikeCell, timeCell, fillCell, between, rangeColumn, dewColumn, windColumn, suspectAt}
 use Rattle.quality.specs.Settled.{range, internal, timeOf, time, fillOf, fill, settled}
 use Rattle.quality.specs.Valid.{ValidCell, ValidColumn, ValidSheet}
 use Rattle.quality.proofs.Between.{ruled}
@@ -55,8 +55,8 @@ wind-valid dd w v =
     cond-keeps ValidCell (missing w) v
     (cond-keeps ValidCell ((eqb dd 0 && ltZ (pos 0) (w .value)) || (leb 1 dd && leb dd 36 && isZero (w .value))) (flagged-valid 4 w (lit≤ tt) v) v)
 
-odd-valid : (m : Bool) (a x b : Cell) → ValidCell x → ValidCell (oddCell m a x b)
-unfolding oddCell
+odd-valid : (m : Bool) (a x b : Cell) → ValidCell x → ValidCell (spikeCell m a x b)
+unfolding spikeCell
 odd-valid m a x b v =
     cond-keeps ValidCell (m && near (negℤ (x .value)) (a .value) && near (negℤ (x .value)) (b .value))
     (valued 2 3 (negℤ (x .value)) (lit≤ tt) (lit≤ tt) (lit≤ tt) (subst (λ (n : ℕ). n ≤ 32767) (sym (size-negative (x .value))) (v .size)))
@@ -115,9 +115,9 @@ replace-valid s e xs v w = record { long = length-set s e xs ∙ v .long; each =
         subst ValidColumn (sym (ap (λ (i : ℕ). column (set s e xs) i) q ∙ getD-set-same s e xs [] (subst (λ (i : ℕ). i < length s) q (subst (λ (n : ℕ). j < n) (sym (v .long)) l)))) w
     at j l (no n) = subst ValidColumn (sym (getD-set-other s e j xs [] n)) (v .each j l)
 
-pub range-keeps : (row : ℕ) (season : Bool) (s : List (List Cell)) → ValidSheet s → ValidSheet (range row season s)
+pub range-keeps : (row : ℕ) (warm : Bool) (s : List (List Cell)) → ValidSheet s → ValidSheet (range row warm s)
 unfolding range rangeColumn
-range-keeps row season s v = sheet-valid _ (λ e l. column-valid _ (λ k h. range-valid (limits e row season) (slot (column s e) k) (v .each e l .each k h)))
+range-keeps row warm s v = sheet-valid _ (λ e l. column-valid _ (λ k h. range-valid (limits e row warm) (slot (column s e) k) (v .each e l .each k h)))
 
 suspect-keeps : (k : ℕ) (xs : List Cell) → k < 9 → ValidColumn xs → ValidColumn (suspectAt k xs)
 unfolding suspectAt
@@ -126,7 +126,7 @@ suspect-keeps k xs h v = put-valid xs k (flagged 4 (slot xs k)) v (flagged-valid
 pub internal-keeps : (dds : List ℕ) (s : List (List Cell)) → ValidSheet s → ValidSheet (internal dds s)
 unfolding internal dewColumn windColumn
 internal-keeps dds s v =
-    cond-keeps ValidSheet (crossed (slot (column s maximum) 4) (slot (column s minimum) 0))
+    cond-keeps ValidSheet (maximumBelowMinimum (slot (column s maximum) 4) (slot (column s minimum) 0))
     (replace-valid _ minimum _ (replace-valid _ maximum _ base (suspect-keeps 4 (column s maximum) (lit< tt) (v .each 7 (lit< tt)))) (suspect-keeps 0 (column s minimum) (lit< tt) (v .each 8 (lit< tt))))
     base
   where
@@ -148,8 +148,8 @@ pub fill-keeps : (s : List (List Cell)) → ValidSheet s → ValidSheet (fill s)
 unfolding fill fillOf
 fill-keeps s v = sheet-valid _ (λ e l. cond-keeps ValidColumn (leb e wind) (between-valid fillCell (column s e) fill-valid (v .each e l)) (v .each e l))
 
-pub settled-keeps : (row : ℕ) (season : Bool) (dds : List ℕ) (raw : List (List Cell)) → ValidSheet raw → ValidSheet (settled row season dds raw)
+pub settled-keeps : (row : ℕ) (warm : Bool) (dds : List ℕ) (raw : List (List Cell)) → ValidSheet raw → ValidSheet (settled row warm dds raw)
 unfolding settled
-settled-keeps row season dds raw v =
-    fill-keeps (time (internal dds (range row season raw)))
-    (time-keeps (internal dds (range row season raw)) (internal-keeps dds (range row season raw) (range-keeps row season raw v)))
+settled-keeps row warm dds raw v =
+    fill-keeps (time (internal dds (range row warm raw)))
+    (time-keeps (internal dds (range row warm raw)) (internal-keeps dds (range row warm raw) (range-keeps row warm raw v)))

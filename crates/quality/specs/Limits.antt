@@ -19,21 +19,21 @@ warm month = leb 4 month && leb month 9
 
 -- "T, X, M", by climate row (0 lowland, 1 hill) and season
 abbrev pub temperatureLimits : ℕ → Bool → Limits
-temperatureLimits row season =
+temperatureLimits row warm =
     cond (eqb row 0)
-    (cond season
+    (cond warm
     (record { min2 = negℤ (pos 150); min1 = negℤ (pos 50); max1 = pos 380; max2 = pos 480 })
     (record { min2 = negℤ (pos 400); min1 = negℤ (pos 250); max1 = pos 250; max2 = pos 350 }))
-    (cond season
+    (cond warm
     (record { min2 = negℤ (pos 220); min1 = negℤ (pos 120); max1 = pos 320; max2 = pos 420 })
     (record { min2 = negℤ (pos 480); min1 = negℤ (pos 320); max1 = pos 200; max2 = pos 300 }))
 
 -- "D: the two lower limits of T, then 250, 320."
 abbrev pub dewPointLimits : ℕ → Bool → Limits
-dewPointLimits row season =
+dewPointLimits row warm =
     record {
-      min2 = temperatureLimits row season .min2;
-      min1 = temperatureLimits row season .min1;
+      min2 = temperatureLimits row warm .min2;
+      min1 = temperatureLimits row warm .min1;
       max1 = pos 250;
       max2 = pos 320;
     }
@@ -54,16 +54,16 @@ unlimited = record { min2 = negℤ (pos 32768); min1 = negℤ (pos 32768); max1 
 
 -- the limits of an element, in the elements' order T, D, P, W, C, V, R, X, M
 abbrev pub limits : ℕ → ℕ → Bool → Limits
-limits element row season =
+limits element row warm =
     getD
-    (temperatureLimits row season
-    ∷ dewPointLimits row season
+    (temperatureLimits row warm
+    ∷ dewPointLimits row warm
     ∷ pressureLimits
     ∷ windLimits
     ∷ unlimited
     ∷ unlimited
     ∷ rainLimits
-    ∷ temperatureLimits row season
-    ∷ temperatureLimits row season
+    ∷ temperatureLimits row warm
+    ∷ temperatureLimits row warm
     ∷ [])
     element unlimited

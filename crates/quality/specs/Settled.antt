@@ -9,16 +9,16 @@ use Rattle.laws.specs.Table.{table}
 use Rattle.quality.specs.Cell.{Cell, slot}
 use Rattle.quality.specs.Elements.{temperature, dewPoint, pressure, wind, maximum, minimum, column}
 use Rattle.quality.specs.Limits.{limits}
-use Rattle.quality.specs.Steps.{rangeColumn, dewColumn, windColumn, crossed, suspectAt, between, timeCell, fillCell}
+use Rattle.quality.specs.Steps.{rangeColumn, dewColumn, windColumn, maximumBelowMinimum, suspectAt, between, timeCell, fillCell}
 
 -- 1. Range, on all elements
 unfoldable pub range : ℕ → Bool → List (List Cell) → List (List Cell)
-range row season s = table 9 (λ e. rangeColumn (limits e row season) (column s e))
+range row warm s = table 9 (λ e. rangeColumn (limits e row warm) (column s e))
 
 -- 2. Internal. dds: dd of each slot
 unfoldable pub internal : List ℕ → List (List Cell) → List (List Cell)
 internal dds s =
-    cond (crossed (slot (column s maximum) 4) (slot (column s minimum) 0))
+    cond (maximumBelowMinimum (slot (column s maximum) 4) (slot (column s minimum) 0))
     (set (set base maximum (suspectAt 4 (column s maximum))) minimum (suspectAt 0 (column s minimum)))
     base
   where
@@ -41,4 +41,4 @@ fill s = table 9 (λ e. fillOf e (column s e))
 
 -- the checked sheet of a station of that climate row in that season, from each slot's dd and the raw sheet
 unfoldable pub settled : ℕ → Bool → List ℕ → List (List Cell) → List (List Cell)
-settled row season dds raw = fill (time (internal dds (range row season raw)))
+settled row warm dds raw = fill (time (internal dds (range row warm raw)))

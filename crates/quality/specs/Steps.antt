@@ -34,8 +34,8 @@ windCell dd w =
     (cond ((eqb dd 0 && ltZ (pos 0) (w .value)) || (leb 1 dd && leb dd 36 && isZero (w .value))) (flagged 4 w) w)
 
 -- "X of slot 4 below M of slot 0": the day's maximum below the night's minimum
-unfoldable pub crossed : Cell → Cell → Bool
-crossed x m = not (missing x) && not (missing m) && ltZ (x .value) (m .value)
+unfoldable pub maximumBelowMinimum : Cell → Cell → Bool
+maximumBelowMinimum x m = not (missing x) && not (missing m) && ltZ (x .value) (m .value)
 
 -- ---- 3. Time
 abbrev pub apart : ℤ → ℤ → ℕ
@@ -51,8 +51,8 @@ near x y = leb (apart x y) 50
 
 -- ".. then for T, if its negative is within 50 of each, it becomes that (state 2, flag 3); else discard, flag 3": a and b are the neighbours
 -- in time, `mends` says whether the element is T
-unfoldable pub oddCell : Bool → Cell → Cell → Cell → Cell
-oddCell mends a x b =
+unfoldable pub spikeCell : Bool → Cell → Cell → Cell → Cell
+spikeCell mends a x b =
     cond (mends && near (negℤ (x .value)) (a .value) && near (negℤ (x .value)) (b .value))
     (record { state = 2; flag = 3; value = negℤ (x .value) })
     (discarded 3)
@@ -61,7 +61,7 @@ oddCell mends a x b =
 unfoldable pub timeCell : Bool → Cell → Cell → Cell → Cell
 timeCell mends a x b =
     cond (missing a || missing x || missing b) x
-    (cond (far (x .value) (a .value) && far (x .value) (b .value)) (oddCell mends a x b) x)
+    (cond (far (x .value) (a .value) && far (x .value) (b .value)) (spikeCell mends a x b) x)
 
 -- ---- 4. Fill: "missing, with neighbours a, b present after step 3: floor((a + b + 1) / 2), state 3, flag kept"
 unfoldable pub fillCell : Cell → Cell → Cell → Cell

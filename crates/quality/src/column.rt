@@ -6,7 +6,7 @@ ghost use Rattle.quality.specs.Cell.{slot, discarded, flagged};
 ghost use Rattle.quality.specs.Coded.{cell, cells};
 
 // A cell: its value v is kept as v + 32768.
-pub struct Datum {
+pub struct OffsetCell {
     pub state: u8,
     pub flag: u8,
     pub value: u16,
@@ -19,11 +19,11 @@ pub struct Column {
 }
 
 // The cell at slot k.
-pub fn at(c: Column, k: usize) -> Datum
+pub fn at(c: Column, k: usize) -> OffsetCell
     requires { ⌜ k < 9 ⌝ }
     ensures { λ r. ⌜ cell r ≡ slot (cells c) k ⌝ }
 {
-    Datum {
+    OffsetCell {
         state: c.states[k],
         flag: c.flags[k],
         value: c.values[k],
@@ -31,7 +31,7 @@ pub fn at(c: Column, k: usize) -> Datum
 }
 
 // The column with the cell d at slot k.
-pub fn put(c: Column, k: usize, d: Datum) -> Column
+pub fn put(c: Column, k: usize, d: OffsetCell) -> Column
     requires { ⌜ k < 9 ⌝ }
     ensures { λ r. ⌜ cells r ≡ set (cells c) k (cell d) ⌝ }
 {
@@ -43,10 +43,10 @@ pub fn put(c: Column, k: usize, d: Datum) -> Column
 }
 
 // Missing, with the flag.
-pub fn discard(flag: u8) -> Datum
+pub fn discard(flag: u8) -> OffsetCell
     ensures { λ r. ⌜ cell r ≡ discarded flag ⌝ }
 {
-    Datum {
+    OffsetCell {
         state: 0,
         flag: flag,
         value: 32768,
@@ -54,10 +54,10 @@ pub fn discard(flag: u8) -> Datum
 }
 
 // The same cell with another flag.
-pub fn mark(d: Datum, flag: u8) -> Datum
+pub fn with_flag(d: OffsetCell, flag: u8) -> OffsetCell
     ensures { λ r. ⌜ cell r ≡ flagged flag (cell d) ⌝ }
 {
-    Datum {
+    OffsetCell {
         state: d.state,
         flag: flag,
         value: d.value,

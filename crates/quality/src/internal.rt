@@ -3,14 +3,14 @@ ghost use mathlib.Core.Path.{_≡_};
 ghost use Rattle.quality.specs.Coded.{cell};
 ghost use Rattle.quality.specs.Steps.{dewCell, windCell};
 ghost use Rattle.quality.specs.Steps as Steps;
-use crate::column::Datum;
+use crate::column::OffsetCell;
 use crate::column::discard;
-use crate::column::mark;
+use crate::column::with_flag;
 use crate::value::below;
 use crate::value::is_zero;
 
 // The dew point d beside the temperature t: discarded where it is above.
-pub fn dew_cell(t: Datum, d: Datum) -> Datum
+pub fn dew_cell(t: OffsetCell, d: OffsetCell) -> OffsetCell
     ensures { λ r. ⌜ cell r ≡ dewCell (cell t) (cell d) ⌝ }
 {
     let missing = (t.state == 0) | (d.state == 0);
@@ -24,7 +24,7 @@ pub fn dew_cell(t: Datum, d: Datum) -> Datum
 }
 
 // The wind speed w beside the direction dd: suspect where one says calm and the other does not.
-pub fn wind_cell(dd: u8, w: Datum) -> Datum
+pub fn wind_cell(dd: u8, w: OffsetCell) -> OffsetCell
     ensures { λ r. ⌜ cell r ≡ windCell dd (cell w) ⌝ }
 {
     if w.state == 0 {
@@ -35,14 +35,14 @@ pub fn wind_cell(dd: u8, w: Datum) -> Datum
     let blowing = (1 <= dd) & (dd <= 36) & is_zero(v);
     let doubtful = calm | blowing;
     if doubtful {
-        return mark(w, 4);
+        return with_flag(w, 4);
     }
     w
 }
 
 // The maximum x is below the minimum m.
-pub fn crossed(x: Datum, m: Datum) -> bool
-    ensures { λ r. ⌜ r ≡ Steps.crossed (cell x) (cell m) ⌝ }
+pub fn maximum_below_minimum(x: OffsetCell, m: OffsetCell) -> bool
+    ensures { λ r. ⌜ r ≡ Steps.maximumBelowMinimum (cell x) (cell m) ⌝ }
 {
     (x.state != 0) & (m.state != 0) & below(x.value, m.value)
 }

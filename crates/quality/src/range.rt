@@ -2,14 +2,14 @@
 ghost use mathlib.Core.Path.{_≡_};
 ghost use Rattle.quality.specs.Coded.{cell, limitsOf};
 ghost use Rattle.quality.specs.Steps.{rangeCell};
-use crate::column::Datum;
+use crate::column::OffsetCell;
 use crate::column::discard;
-use crate::column::mark;
-use crate::limits::Bounds;
+use crate::column::with_flag;
+use crate::limits::OffsetLimits;
 use crate::value::below;
 
 // One cell against the limits.
-pub fn range_cell(l: Bounds, d: Datum) -> Datum
+pub fn range_cell(l: OffsetLimits, d: OffsetCell) -> OffsetCell
     ensures { λ r. ⌜ cell r ≡ rangeCell (limitsOf l) (cell d) ⌝ }
 {
     let v = d.value;
@@ -22,7 +22,7 @@ pub fn range_cell(l: Bounds, d: Datum) -> Datum
     }
     let doubtful = below(v, l.min1) | below(l.max1, v);
     if doubtful {
-        return mark(d, 4);
+        return with_flag(d, 4);
     }
     d
 }

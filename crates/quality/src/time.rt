@@ -1,9 +1,9 @@
 // The time and fill steps: a value beside its neighbours in time.
 ghost use mathlib.Core.Path.{_≡_};
 ghost use Rattle.quality.specs.Coded.{cell};
-ghost use Rattle.quality.specs.Steps.{oddCell, timeCell, fillCell};
+ghost use Rattle.quality.specs.Steps.{spikeCell, timeCell, fillCell};
 ghost use Rattle.quality.specs.Valid.{ValidCell};
-use crate::column::Datum;
+use crate::column::OffsetCell;
 use crate::column::discard;
 use crate::value::far;
 use crate::value::middle;
@@ -11,14 +11,14 @@ use crate::value::near;
 use crate::value::negative;
 
 // A value x that differs from both neighbours: its negative where that is near both and the element mends, else discarded.
-fn mended(mends: bool, a: Datum, x: Datum, b: Datum) -> Datum
+fn mended(mends: bool, a: OffsetCell, x: OffsetCell, b: OffsetCell) -> OffsetCell
     requires { ⌜ ValidCell (cell x) ⌝ }
-    ensures { λ r. ⌜ cell r ≡ oddCell mends (cell a) (cell x) (cell b) ⌝ }
+    ensures { λ r. ⌜ cell r ≡ spikeCell mends (cell a) (cell x) (cell b) ⌝ }
 {
     let n = negative(x.value);
     let fits = mends & near(n, a.value) & near(n, b.value);
     if fits {
-        return Datum {
+        return OffsetCell {
             state: 2,
             flag: 3,
             value: n,
@@ -28,7 +28,7 @@ fn mended(mends: bool, a: Datum, x: Datum, b: Datum) -> Datum
 }
 
 // The value x between its neighbours a and b in time: mended, discarded or kept.
-pub fn time_cell(mends: bool, a: Datum, x: Datum, b: Datum) -> Datum
+pub fn time_cell(mends: bool, a: OffsetCell, x: OffsetCell, b: OffsetCell) -> OffsetCell
     requires { ⌜ ValidCell (cell x) ⌝ }
     ensures { λ r. ⌜ cell r ≡ timeCell mends (cell a) (cell x) (cell b) ⌝ }
 {
@@ -44,12 +44,12 @@ pub fn time_cell(mends: bool, a: Datum, x: Datum, b: Datum) -> Datum
 }
 
 // The missing x between its neighbours a and b in time: filled by their mean.
-pub fn fill_cell(a: Datum, x: Datum, b: Datum) -> Datum
+pub fn fill_cell(a: OffsetCell, x: OffsetCell, b: OffsetCell) -> OffsetCell
     ensures { λ r. ⌜ cell r ≡ fillCell (cell a) (cell x) (cell b) ⌝ }
 {
     let gap = (x.state == 0) & (a.state != 0) & (b.state != 0);
     if gap {
-        return Datum {
+        return OffsetCell {
             state: 3,
             flag: x.flag,
             value: middle(a.value, b.value),

@@ -2,7 +2,7 @@
 -- Assumes nothing.
 use Rattle.rules.specs.Step.{step}
 use Rattle.rules.specs.Isolation.{Isolated}
-use Rattle.rules.proofs.Deeds.{all-lawful}
+use Rattle.rules.proofs.Requests.{all-lawful}
 use Rattle.rules.proofs.Reports.{report-bounds}
 use Rattle.rules.proofs.Isolation.{isolated}
 

@@ -13,21 +13,21 @@ use lib.IntN.{pos}
 use Rattle.laws.specs.Table.{table}
 use Rattle.calendar.specs.Dates.{isDate, daysIn, nextDay}
 use Rattle.calendar.specs.Slots.{slotOf}
-use Rattle.text.specs.Characters
-use Rattle.text.specs.Groups
-use Rattle.text.specs.Kinds
-use Rattle.checks.specs.Bytes
-use Rattle.places.specs.Places
-use Rattle.checks.specs.Ranges
-use Rattle.checks.specs.Refusal
-use Rattle.checks.specs.Shapes
-use Rattle.codes.specs.Tables
-use Rattle.figures.specs.Digits
-use Rattle.figures.specs.Elements
-use Rattle.figures.specs.Heads
-use Rattle.codes.specs.Value.{missing, read}
-use Rattle.parts.specs.Parts
-use Rattle.contents.specs.Contents
+use Rattle.synop_text.specs.Characters
+use Rattle.synop_text.specs.Groups
+use Rattle.synop_text.specs.Kinds
+use Rattle.synop_checks.specs.Bytes
+use Rattle.synop_order.specs.Places
+use Rattle.synop_checks.specs.Ranges
+use Rattle.synop_checks.specs.Refusal
+use Rattle.synop_checks.specs.Shapes
+use Rattle.synop_codes.specs.Tables
+use Rattle.synop_figures.specs.Digits
+use Rattle.synop_figures.specs.Elements
+use Rattle.synop_figures.specs.Heads
+use Rattle.synop_codes.specs.Value.{missing, read}
+use Rattle.synop_parts.specs.Parts
+use Rattle.synop_contents.specs.Contents
 use Rattle.synop.specs.Report
 use Rattle.quality.specs.Steps
 use Rattle.quality.specs.Settled
@@ -38,10 +38,10 @@ use Rattle.daily.specs.Line
 use Rattle.daily.specs.Line.{DayLine}
 use Rattle.daily.specs.Means.{absent, sum, average, vapourColumn}
 use Rattle.daily.specs.Rain
-use Rattle.layout.specs.Model.{Station}
-use Rattle.layout.specs.Opening.{openable}
-use Rattle.layout.specs.Deeds.{withSlot, withChecked, withBlock}
-use Rattle.rules.specs.Calls.{Call, file, settle, cell, day, Answer, refused, accepted, aCell, aDay, Ask, nobody, somebody, takeNil, take, settling, giveCell, giveDay, ask}
+use Rattle.store_layout.specs.Model.{Station}
+use Rattle.store_layout.specs.Opening.{openable}
+use Rattle.store_layout.specs.Updates.{withSlot, withChecked, withBlock}
+use Rattle.rules.specs.Calls.{Call, file, settle, cell, day, Answer, refused, accepted, aCell, aDay, Ask, unnamed, named, takeNil, take, settling, giveCell, giveDay, ask}
 use Rattle.rules.specs.Rules
 use Rattle.rules.specs.Rules.{Date}
 use Rattle.rules.specs.Step.{step}
@@ -50,7 +50,7 @@ use Rattle.rules.specs.Isolation.{Opens, Has, opened, Alike}
 use Rattle.rules.proofs.Kept.{doneBy}
 use Rattle.rules.proofs.Holding.{answerOf, stationOf}
 use Rattle.rules.proofs.Own.{ownLog, shows}
-use Rattle.rules.proofs.Deeds.{all-lawful}
+use Rattle.rules.proofs.Requests.{all-lawful}
 use Rattle.rules.proofs.Reports.{report-bounds}
 use Rattle.rules.proofs.Demand3.{demand3}
 use Rattle.rules.proofs.Isolation.{newStation, date, holds-opened}
@@ -77,13 +77,13 @@ small = file (bytes "aaxx=")
 -- what they ask of whom
 abbrev report : Ask
 report =
-    somebody 40001
+    named 40001
     (take 11 6 (record { «rain_indicator» = 1; «rain_duration» = 2; «wind_direction» = 27 })
     (read (pos 103) ∷ read (pos 71) ∷ read (pos 10132) ∷ read (pos 40) ∷ read (pos 6) ∷ read (pos 100) ∷ read (pos 40) ∷ missing ∷ missing ∷ []))
 
 asks : (ask whole ≡ report)
-    × (ask neighbour ≡ somebody 30000 (takeNil 11 6))
-    × (ask small ≡ nobody 2)
+    × (ask neighbour ≡ named 30000 (takeNil 11 6))
+    × (ask small ≡ unnamed 2)
 unfolding whole neighbour small bytes bytesFrom table
     Characters.areFigures Groups.cut Kinds.ofThree Kinds.ofFour Kinds.ofFive Kinds.kindOf
     Bytes.ended Bytes.check1 Bytes.isKnown Bytes.check2 Bytes.ofBytes
@@ -93,7 +93,7 @@ unfolding whole neighbour small bytes bytesFrom table
     Digits.two Digits.three Digits.four
     Tables.temperatureOf Elements.temperature Tables.pressureOf Elements.pressure Tables.windOf Elements.windFf Elements.windFff Tables.cloudOf Elements.cloud Tables.visibilityOf Elements.visibility Tables.rainOf Elements.rain
     Tables.rainIndicatorOf Heads.rainIndicator Tables.windDirectionOf Heads.windDirection Heads.rainDurationOf Heads.rainDuration
-    Contents.charactersOf Contents.twoOf Contents.stationOf Contents.headingOf Contents.headOf Contents.temperatureOf Contents.pressureOf Contents.cloudOf Contents.visibilityOf Contents.rainOf Contents.ffOf Contents.windOf Contents.valuesOf
+    Contents.charactersOf Contents.twoOf Contents.stationOf Contents.identificationOf Contents.indicatorsOf Contents.temperatureOf Contents.pressureOf Contents.cloudOf Contents.visibilityOf Contents.rainOf Contents.ffOf Contents.windOf Contents.valuesOf
     Parts.ofOne Parts.ofThree Parts.ofLater Parts.first Parts.parts
     Report.valuesIn Report.content Report.read Report.report
 asks = (refl, refl, refl)
@@ -161,8 +161,8 @@ replies-asked d t (c ∷ cs) =
 
 asked : List Ask
 asked =
-    report ∷ somebody 40001 giveDay ∷ somebody 40001 settling ∷ somebody 40001 (giveCell 0 0) ∷ report ∷ somebody 40001 (giveCell 0 9)
-    ∷ somebody 40001 giveDay
+    report ∷ named 40001 giveDay ∷ named 40001 settling ∷ named 40001 (giveCell 0 0) ∷ report ∷ named 40001 (giveCell 0 9)
+    ∷ named 40001 giveDay
     ∷ []
 
 asked-own : map ask own ≡ asked
@@ -172,10 +172,10 @@ asked-own = rw (asks .0)
 replies-computed : repliesTo (date 2024 4 11) (newStation 40001 0) asked ≡ replies
 unfolding asked replies repliesTo table isDate daysIn nextDay slotOf withSlot withChecked withBlock
     Rules.filed Rules.fileAt Rules.settledStation Rules.cellOf Rules.dayOf Rules.rule
-    Steps.rangeCell Steps.dewCell Steps.windCell Steps.crossed Steps.oddCell Steps.timeCell Steps.fillCell Steps.between Steps.rangeColumn Steps.dewColumn Steps.windColumn Steps.suspectAt
+    Steps.rangeCell Steps.dewCell Steps.windCell Steps.maximumBelowMinimum Steps.spikeCell Steps.timeCell Steps.fillCell Steps.between Steps.rangeColumn Steps.dewColumn Steps.windColumn Steps.suspectAt
     Settled.range Settled.internal Settled.timeOf Settled.time Settled.fillOf Settled.fill Settled.settled
-    Vapour.term Vapour.total Vapour.Z Vapour.entry Vapour.pressure
-    Counts.inColumn Counts.inSheet Extremes.earliest Extremes.warmest Extremes.coldest Line.dayLine sum average vapourColumn Rain.half Rain.total
+    Vapour.term Vapour.sumTo Vapour.Z Vapour.entry Vapour.pressure
+    Counts.inColumn Counts.inSheet Extremes.earliest Extremes.warmest Extremes.coldest Line.dayLine sum average vapourColumn Rain.half Rain.rainTotal
 replies-computed = refl
 
 -- ---- the two runs

@@ -1,5 +1,5 @@
 -- Stores that hold a station, and what a call leaves of that: nothing of the store but its date and the station itself plays a part.
---     Holds          the bytes are those of a valid store of that date, in which the station stands
+--     HoldsStation   the bytes are those of a valid store of that date, in which the station stands
 --     holds-own      after a call that names it
 --     holds-other    after any other call
 --     records-held   its records
@@ -11,24 +11,24 @@ use Prim.Native.Nat.{ℕ, _+_, _<_}
 use native.Mathlib.Omega.{arith}
 use borrow.Author.Tests.{eqb-true}
 use lib.ListN.{length, take, drop, length-append}
-use Rattle.layout.specs.Model.{Station, Store, stationAt}
-use Rattle.layout.specs.Valid.{ValidStation, ValidStore}
-use Rattle.layout.specs.Layout.{encode, decode, encodeEntry, encodeBlock, entryAt, entryLength, blockAt, blockLength}
-use Rattle.layout.specs.Place.{Place, place, placeIn, numbers}
-use Rattle.layout.specs.Deeds.{withStation}
-use Rattle.layout.proofs.Stores.{decode-encode, entry-in, block-in, length-entry}
-use Rattle.layout.proofs.Blocks.{length-block}
-use Rattle.layout.proofs.Models.{with-count, with-same, with-other}
-use Rattle.layout.proofs.Places.{finds}
-use Rattle.rules.specs.Calls.{Call, Answer, accepted, Ask, nobody, somebody, ask}
-use Rattle.rules.specs.Rules.{Date, Done, keeps, makes, rule}
+use Rattle.store_layout.specs.Model.{Station, Store, stationAt}
+use Rattle.store_layout.specs.Valid.{ValidStation, ValidStore}
+use Rattle.store_layout.specs.Layout.{encode, decode, encodeEntry, encodeBlock, entryAt, entryLength, blockAt, blockLength}
+use Rattle.store_layout.specs.Index.{Index, index, indexIn, numbers}
+use Rattle.store_layout.specs.Updates.{withStation}
+use Rattle.store_layout.proofs.Stores.{decode-encode, entry-in, block-in, length-entry}
+use Rattle.store_layout.proofs.Blocks.{length-block}
+use Rattle.store_layout.proofs.Models.{with-count, with-same, with-other}
+use Rattle.store_layout.proofs.Indices.{finds}
+use Rattle.rules.specs.Calls.{Call, Answer, accepted, Ask, unnamed, named, ask}
+use Rattle.rules.specs.Rules.{Date, Effect, keeps, makes, rule}
 use Rattle.rules.specs.Step.{Outcome, dateOf, after, at, asked, step}
 use Rattle.rules.specs.Runs.{asks, names, recordsAt, records}
 use Rattle.rules.proofs.Kept.{Kept, valid-kept, AllLawful, doneBy, kept-by}
 use Rattle.rules.proofs.Steps.{step-encoded, Leaves, same, replaced, leaves}
 
 -- the station t, with the number x, stands in a valid store of the date d, and s are the bytes of that store
-pub record Holds (d : Date) (x : ℕ) (t : Station) (s : List ℕ) : Type 0 where
+pub record HoldsStation (d : Date) (x : ℕ) (t : Station) (s : List ℕ) : Type 0 where
   pub model : Store
   pub valid : ValidStore model
   pub bytes : s ≡ encode model
@@ -42,22 +42,22 @@ date-with : (i : ℕ) (t : Station) (m : Store) → dateOf (withStation i t m) �
 unfolding withStation
 date-with i t m = refl
 
--- what a deed leaves: its answer, and the station
-abbrev pub answerOf : Done → Answer
+-- what a request leaves: its answer, and the station
+abbrev pub answerOf : Effect → Answer
 answerOf (keeps a) = a
 answerOf (makes u) = accepted
 
-abbrev pub stationOf : Done → Station → Station
+abbrev pub stationOf : Effect → Station → Station
 stationOf (keeps a) t = t
 stationOf (makes u) t = u
 
-after-answer : (r : Done) (i : ℕ) (m : Store) (s : List ℕ) → after r i m s .answer ≡ answerOf r
+after-answer : (r : Effect) (i : ℕ) (m : Store) (s : List ℕ) → after r i m s .answer ≡ answerOf r
 after-answer (keeps a) i m s = refl
 after-answer (makes u) i m s = refl
 
-module _ {d : Date} {x : ℕ} {t : Station} {s : List ℕ} (h : Holds d x t s) where
-  place-held : placeIn (numbers (h .model)) x ≡ place (h .index)
-  place-held =
+module _ {d : Date} {x : ℕ} {t : Station} {s : List ℕ} (h : HoldsStation d x t s) where
+  index-held : indexIn (numbers (h .model)) x ≡ index (h .index)
+  index-held =
       finds (h .model) (h .valid) x (h .index)
       (record { inside = h .inside; named = ap (λ (u : Station). u .number) (h .station) ∙ h .named })
 
@@ -69,7 +69,7 @@ module _ {d : Date} {x : ℕ} {t : Station} {s : List ℕ} (h : Holds d x t s) w
 
   -- a station u put in the place of the j-th: what stands at the station's own place is held
   put : (j : ℕ) (u v : Station) → Kept (stationAt (h .model .stations) j) u → stationAt (withStation j u (h .model) .stations) (h .index) ≡ v
-      → v .number ≡ x → Holds d x v (encode (withStation j u (h .model)))
+      → v .number ≡ x → HoldsStation d x v (encode (withStation j u (h .model)))
   put j u v k e n =
       record {
         model = withStation j u (h .model);
@@ -87,11 +87,11 @@ module _ {d : Date} {x : ℕ} {t : Station} {s : List ℕ} (h : Holds d x t s) w
   step-own c e = step-held c ∙ go (ask c) e
     where
       go : (q : Ask) → asks q x ≡ true → asked q (h .model) s ≡ after (doneBy d q t) (h .index) (h .model) s
-      go (nobody n) b = refl
-      go (somebody y deed) b =
-          ap (λ (p : Place). at p (λ i. after (rule (dateOf (h .model)) deed (stationAt (h .model .stations) i)) i (h .model) s) s)
-          (ap (placeIn (numbers (h .model))) (eqb-true y x b) ∙ place-held)
-          ∙ ap₂ (λ (b : Date) (u : Station). after (rule b deed u) (h .index) (h .model) s) (h .date) (h .station)
+      go (unnamed n) b = refl
+      go (named y request) b =
+          ap (λ (p : Index). at p (λ i. after (rule (dateOf (h .model)) request (stationAt (h .model .stations) i)) i (h .model) s) s)
+          (ap (indexIn (numbers (h .model))) (eqb-true y x b) ∙ index-held)
+          ∙ ap₂ (λ (b : Date) (u : Station). after (rule b request u) (h .index) (h .model) s) (h .date) (h .station)
 
   pub answer-own : (c : Call) → names x c ≡ true → step c s .answer ≡ answerOf (doneBy d (ask c) t)
   answer-own c e = ap (λ (o : Outcome). o .answer) (step-own c e) ∙ after-answer (doneBy d (ask c) t) (h .index) (h .model) s
@@ -100,8 +100,8 @@ module _ {d : Date} {x : ℕ} {t : Station} {s : List ℕ} (h : Holds d x t s) w
   pub records-held : records x s ≡ encodeEntry t ++ encodeBlock (t .block)
   unfolding records
   records-held =
-      ap (λ (m : Store). recordsAt (placeIn (numbers m) x) (length (m .stations)) s) (ap decode (h .bytes) ∙ decode-encode (h .model) (h .valid))
-      ∙ ap (λ (p : Place). recordsAt p (length (h .model .stations)) s) place-held
+      ap (λ (m : Store). recordsAt (indexIn (numbers m) x) (length (m .stations)) s) (ap decode (h .bytes) ∙ decode-encode (h .model) (h .valid))
+      ∙ ap (λ (p : Index). recordsAt p (length (h .model .stations)) s) index-held
       ∙ ap₂ _++_ entry block
     where
       entry : take entryLength (drop (entryAt (h .index)) s) ≡ encodeEntry t
@@ -115,17 +115,17 @@ module _ {d : Date} {x : ℕ} {t : Station} {s : List ℕ} (h : Holds d x t s) w
       ap length records-held ∙ length-append (encodeEntry t) (encodeBlock (t .block)) ∙ omega (arith, length-entry t, length-block (t .block))
 
   module _ (lawful : AllLawful) where
-    pub holds-own : (c : Call) → names x c ≡ true → Holds d x (stationOf (doneBy d (ask c) t) t) (step c s .store)
+    pub holds-own : (c : Call) → names x c ≡ true → HoldsStation d x (stationOf (doneBy d (ask c) t) t) (step c s .store)
     holds-own c e =
-        subst (λ (o : Outcome). Holds d x (stationOf (doneBy d (ask c) t) t) (o .store)) (sym (step-own c e)) (done (doneBy d (ask c) t) refl)
+        subst (λ (o : Outcome). HoldsStation d x (stationOf (doneBy d (ask c) t) t) (o .store)) (sym (step-own c e)) (done (doneBy d (ask c) t) refl)
       where
-        done : (r : Done) → doneBy d (ask c) t ≡ r → Holds d x (stationOf r t) (after r (h .index) (h .model) s .store)
+        done : (r : Effect) → doneBy d (ask c) t ≡ r → HoldsStation d x (stationOf r t) (after r (h .index) (h .model) s .store)
         done (keeps a) q = h
         done (makes u) q =
             let k = kept-by lawful c d t u held-valid q in
             put (h .index) u u (rw (h .station) k) (with-same (h .index) u (h .model) (h .inside)) (k .number ∙ h .named)
 
-    pub holds-other : (c : Call) → names x c ≡ false → Holds d x t (step c s .store)
+    pub holds-other : (c : Call) → names x c ≡ false → HoldsStation d x t (step c s .store)
     holds-other c f = rw (h .bytes) (go (leaves lawful c (h .model) (h .valid)))
       where
         own : names (stationAt (h .model .stations) (h .index) .number) c ≡ names x c
@@ -135,7 +135,7 @@ module _ {d : Date} {x : ℕ} {t : Station} {s : List ℕ} (h : Holds d x t s) w
         apart j n i =
             false≢true (sym f ∙ sym own ∙ ap (λ (k : ℕ). names (stationAt (h .model .stations) k .number) c) i ∙ n)
 
-        go : Leaves c (h .model) (step c (encode (h .model)) .store) → Holds d x t (step c (encode (h .model)) .store)
-        go (same e) = subst (Holds d x t) (h .bytes ∙ sym e) h
+        go : Leaves c (h .model) (step c (encode (h .model)) .store) → HoldsStation d x t (step c (encode (h .model)) .store)
+        go (same e) = subst (HoldsStation d x t) (h .bytes ∙ sym e) h
         go (replaced j u n k e) =
-            subst (Holds d x t) (sym e) (put j u t k (with-other j u (h .model) (h .index) (apart j n) ∙ h .station) (h .named))
+            subst (HoldsStation d x t) (sym e) (put j u t k (with-other j u (h .model) (h .index) (apart j n) ∙ h .station) (h .named))

@@ -11,10 +11,10 @@ use native.Mathlib.Omega.{arith}
 use borrow.Author.Tests.{le-leb}
 use lib.ListN.{length}
 use Rattle.calendar.specs.Dates.{isDate}
-use Rattle.layout.specs.Model.{Station, emptyBlock}
-use Rattle.layout.specs.Layout.{storeLength, encodeEntry, encodeBlock}
-use Rattle.layout.specs.Opening.{openable, fresh}
-use Rattle.layout.proofs.Opened.{openable-parts, fresh-count, fresh-station, valid-fresh}
+use Rattle.store_layout.specs.Model.{Station, emptyBlock}
+use Rattle.store_layout.specs.Layout.{storeLength, encodeEntry, encodeBlock}
+use Rattle.store_layout.specs.Opening.{openable, fresh}
+use Rattle.store_layout.proofs.Opened.{openable-parts, fresh-count, fresh-station, valid-fresh}
 use Rattle.rules.specs.Calls.{Call}
 use Rattle.rules.specs.Rules.{Date}
 use Rattle.rules.specs.Step.{dateOf, step}
@@ -22,7 +22,7 @@ use Rattle.rules.specs.Runs.{naming}
 use Rattle.rules.specs.Isolation.{Opens, Has, opened, Alike, Isolated}
 use Rattle.rules.proofs.Compared.{naming-naming}
 use Rattle.rules.proofs.Kept.{AllLawful}
-use Rattle.rules.proofs.Holding.{Holds, records-held, records-long}
+use Rattle.rules.proofs.Holding.{HoldsStation, records-held, records-long}
 use Rattle.rules.proofs.Own.{ownLog, ownEnd, shows}
 
 -- ---- opening
@@ -39,7 +39,7 @@ module _ (year month day : ℕ) where
   date-fresh numbers rows = refl
 
   pub holds-opened : (x row : ℕ) (numbers rows : List ℕ) → Opens year month day numbers rows → Has numbers rows x row
-      → Holds date x (newStation x row) (opened year month day numbers rows)
+      → HoldsStation date x (newStation x row) (opened year month day numbers rows)
   holds-opened x row numbers rows o h =
       record {
         model = fresh year month day numbers rows;
@@ -65,7 +65,7 @@ module _ (year month day : ℕ) where
 
 -- ---- any two runs on stores that hold the same station on the same date, with the same calls naming it
 module _ (lawful : AllLawful) where
-  alike : {d : Date} {x : ℕ} {t : Station} {s s′ : List ℕ} (cs cs′ : List Call) → Holds d x t s → Holds d x t s′ → naming x cs ≡ naming x cs′
+  alike : {d : Date} {x : ℕ} {t : Station} {s s′ : List ℕ} (cs cs′ : List Call) → HoldsStation d x t s → HoldsStation d x t s′ → naming x cs ≡ naming x cs′
       → Alike step x s s′ cs cs′
   alike {d} {x} {t} {s} {s′} cs cs′ h h′ e =
       let p = shows lawful cs h in

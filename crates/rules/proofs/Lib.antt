@@ -5,7 +5,7 @@ pub mod Steps
 pub mod Holding
 pub mod Own
 pub mod Isolation
-pub mod Deeds
+pub mod Requests
 pub mod Reports
 pub mod Demand3
 pub mod WrongEngines

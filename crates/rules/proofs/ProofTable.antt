@@ -4,14 +4,14 @@
 use mathlib.Core.Path.{refl}
 use Rattle.laws.specs.Table.{table}
 use Rattle.quality.specs.Settled.{timeOf, fillOf}
-use Rattle.quality.specs.Steps.{between, rangeCell, timeCell, oddCell, fillCell}
+use Rattle.quality.specs.Steps.{between, rangeCell, timeCell, spikeCell, fillCell}
 use Rattle.calendar.proofs.Examples.{after-2024-02-28}
-use Rattle.figures.proofs.ProofTable as codes
+use Rattle.synop_figures.proofs.ProofTable as codes
 use Rattle.vapour.proofs.Examples.{at-0, at-100}
 use Rattle.rules.specs.ProofTable.{ProofTable}
 
 pub proof-table : ProofTable
-unfolding table timeOf fillOf between rangeCell timeCell oddCell fillCell
+unfolding table timeOf fillOf between rangeCell timeCell spikeCell fillCell
 proof-table =
     record {
       knots-45 = codes.proof-table .0;

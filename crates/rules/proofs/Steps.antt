@@ -10,19 +10,19 @@ use mathlib.Core.List.{List}
 use Prim.Native.Nat.{ℕ}
 use borrow.Author.Tests.{eq-eqb}
 use Rattle.laws.proofs.Bools.{cond-true}
-use Rattle.layout.specs.Model.{Station, Store, stationAt}
-use Rattle.layout.specs.Valid.{ValidStore}
-use Rattle.layout.specs.Layout.{encode, decode}
-use Rattle.layout.specs.Framed.{Bytes}
-use Rattle.layout.specs.Sound.{sound}
-use Rattle.layout.specs.Place.{Place, nowhere, place, placeIn, numbers}
-use Rattle.layout.specs.Deeds.{withStation}
-use Rattle.layout.proofs.Stores.{decode-encode, encode-decode}
-use Rattle.layout.proofs.Soundness.{sound-framed, sound-valid}
-use Rattle.layout.proofs.ValidBytes.{sound-encode}
-use Rattle.layout.proofs.Places.{Found, found}
-use Rattle.rules.specs.Calls.{Call, Deed, Ask, nobody, somebody, ask}
-use Rattle.rules.specs.Rules.{Done, keeps, makes, rule}
+use Rattle.store_layout.specs.Model.{Station, Store, stationAt}
+use Rattle.store_layout.specs.Valid.{ValidStore}
+use Rattle.store_layout.specs.Layout.{encode, decode}
+use Rattle.store_layout.specs.Framed.{Bytes}
+use Rattle.store_layout.specs.Sound.{sound}
+use Rattle.store_layout.specs.Index.{Index, nowhere, index, indexIn, numbers}
+use Rattle.store_layout.specs.Updates.{withStation}
+use Rattle.store_layout.proofs.Stores.{decode-encode, encode-decode}
+use Rattle.store_layout.proofs.Soundness.{sound-framed, sound-valid}
+use Rattle.store_layout.proofs.ValidBytes.{sound-encode}
+use Rattle.store_layout.proofs.Indices.{Found, found}
+use Rattle.rules.specs.Calls.{Call, Request, Ask, unnamed, named, ask}
+use Rattle.rules.specs.Rules.{Effect, keeps, makes, rule}
 use Rattle.rules.specs.Step.{Outcome, dateOf, after, at, asked, step}
 use Rattle.rules.specs.Runs.{names}
 use Rattle.rules.proofs.Kept.{Kept, valid-kept, AllLawful}
@@ -38,22 +38,22 @@ pub data Leaves (c : Call) (m : Store) (s : List ℕ) : Type 0 where
       → s ≡ encode (withStation j u m) → Leaves c m s
 
 module _ (lawful : AllLawful) (c : Call) (m : Store) (v : ValidStore m) where
-  module _ (y : ℕ) (deed : Deed) (e : ask c ≡ somebody y deed) where
-    leaves-after : (j : ℕ) → Found m y j → (r : Done) → rule (dateOf m) deed (stationAt (m .stations) j) ≡ r → Leaves c m (after r j m (encode m) .store)
+  module _ (y : ℕ) (request : Request) (e : ask c ≡ named y request) where
+    leaves-after : (j : ℕ) → Found m y j → (r : Effect) → rule (dateOf m) request (stationAt (m .stations) j) ≡ r → Leaves c m (after r j m (encode m) .store)
     leaves-after j f (keeps a) q = same refl
     leaves-after j f (makes u) q =
         replaced j u (rw e (eq-eqb y (stationAt (m .stations) j .number) (sym (f .named))))
-        (lawful .asked c y deed e (dateOf m) (stationAt (m .stations) j) u (v .each j (f .inside)) q)
+        (lawful .asked c y request e (dateOf m) (stationAt (m .stations) j) u (v .each j (f .inside)) q)
         refl
 
-    leaves-at : (p : Place) → placeIn (numbers m) y ≡ p
-        → Leaves c m (at p (λ i. after (rule (dateOf m) deed (stationAt (m .stations) i)) i m (encode m)) (encode m) .store)
+    leaves-at : (p : Index) → indexIn (numbers m) y ≡ p
+        → Leaves c m (at p (λ i. after (rule (dateOf m) request (stationAt (m .stations) i)) i m (encode m)) (encode m) .store)
     leaves-at nowhere q = same refl
-    leaves-at (place j) q = leaves-after j (found m y j q) (rule (dateOf m) deed (stationAt (m .stations) j)) refl
+    leaves-at (index j) q = leaves-after j (found m y j q) (rule (dateOf m) request (stationAt (m .stations) j)) refl
 
   leaves-asked : (q : Ask) → ask c ≡ q → Leaves c m (asked q m (encode m) .store)
-  leaves-asked (nobody n) e = same refl
-  leaves-asked (somebody y deed) e = leaves-at y deed e (placeIn (numbers m) y) refl
+  leaves-asked (unnamed n) e = same refl
+  leaves-asked (named y request) e = leaves-at y request e (indexIn (numbers m) y) refl
 
   pub leaves : Leaves c m (step c (encode m) .store)
   leaves = subst (λ (o : Outcome). Leaves c m (o .store)) (sym (step-encoded c m v)) (leaves-asked (ask c) refl)

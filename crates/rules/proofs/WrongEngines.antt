@@ -13,14 +13,14 @@ use lib.Dec.{eqb, lit≤}
 use lib.ListN.{length, getD}
 use Rattle.laws.specs.Table.{table}
 use Rattle.calendar.specs.Dates.{isDate, daysIn}
-use Rattle.layout.specs.Model.{Store, stationAt}
-use Rattle.layout.specs.Layout.{encode, decode, encodeEntry, storeLength}
-use Rattle.layout.specs.Opening.{openable, fresh}
-use Rattle.layout.specs.Deeds.{withBlock, withStation}
-use Rattle.layout.specs.Place.{placeIn}
-use Rattle.layout.specs.Valid.{ValidStore}
-use Rattle.layout.proofs.Opened.{fresh-count, valid-fresh}
-use Rattle.layout.proofs.Stores.{decode-encode}
+use Rattle.store_layout.specs.Model.{Store, stationAt}
+use Rattle.store_layout.specs.Layout.{encode, decode, encodeEntry, storeLength}
+use Rattle.store_layout.specs.Opening.{openable, fresh}
+use Rattle.store_layout.specs.Updates.{withBlock, withStation}
+use Rattle.store_layout.specs.Index.{indexIn}
+use Rattle.store_layout.specs.Valid.{ValidStore}
+use Rattle.store_layout.proofs.Opened.{fresh-count, valid-fresh}
+use Rattle.store_layout.proofs.Stores.{decode-encode}
 use Rattle.rules.specs.Calls.{Call, file, settle, cell, day, Answer, refused, accepted, aCell, aDay}
 use Rattle.rules.specs.Rules.{Date, settledStation, dayOf, rule}
 use Rattle.rules.specs.Step.{Outcome, dateOf, unchanged, step}
@@ -28,8 +28,8 @@ use Rattle.rules.specs.Runs.{Engine, Logged, log, left, names, naming, n
 use Rattle.rules.specs.Isolation.{Opens, Has, opened, Alike, Isolated}
 use Rattle.rules.proofs.Kept.{valid-kept}
 use Rattle.rules.proofs.Steps.{step-encoded}
-use Rattle.rules.proofs.Holding.{Holds, answer-own, records-held}
-use Rattle.rules.proofs.Deeds.{kept-block, kept-settled}
+use Rattle.rules.proofs.Holding.{HoldsStation, answer-own, records-held}
+use Rattle.rules.proofs.Requests.{kept-block, kept-settled}
 use Rattle.rules.proofs.Isolation.{newStation, date, holds-opened}
 
 -- ---- a store of one station on 11 April 2024, and one of two
@@ -53,10 +53,10 @@ one = opened 2024 4 11 (40001 ∷ []) (0 ∷ [])
 abbrev two : List ℕ
 two = opened 2024 4 11 (40001 ∷ 50000 ∷ []) (0 ∷ 1 ∷ [])
 
-holds-one : Holds (date 2024 4 11) 40001 (newStation 40001 0) one
+holds-one : HoldsStation (date 2024 4 11) 40001 (newStation 40001 0) one
 holds-one = holds-opened 2024 4 11 40001 0 (40001 ∷ []) (0 ∷ []) opens-one has-one
 
-holds-two : Holds (date 2024 4 11) 40001 (newStation 40001 0) two
+holds-two : HoldsStation (date 2024 4 11) 40001 (newStation 40001 0) two
 holds-two = holds-opened 2024 4 11 40001 0 (40001 ∷ 50000 ∷ []) (0 ∷ 1 ∷ []) opens-two has-two
 
 module _ {engine : Engine} (i : Isolated engine) (cs ds : List Call) (e : naming 40001 cs ≡ naming 40001 ds) where
@@ -126,7 +126,7 @@ marks-refuted engine m i =
     let e : stationAt (m .leaves .stations) 0 .settled % 256 ≡ 0 = ap (λ (l : List ℕ). getD l 7 0) (sym (records-held holds) ∙ r ∙ records-held holds-two) in
     omega (arith, m .mark)
   where
-    holds : Holds (dateOf (m .leaves)) 40001 (stationAt (m .leaves .stations) 0) (engine (m .call) two .store)
+    holds : HoldsStation (dateOf (m .leaves)) 40001 (stationAt (m .leaves .stations) 0) (engine (m .call) two .store)
     holds =
         record {
           model = m .leaves;
@@ -184,7 +184,7 @@ spoiling : Engine
 spoiling c s = spoilAfter (step c s .answer) (step c s) s
 
 unknown : step (settle 60000) two .answer ≡ refused 6
-unfolding fresh table placeIn
+unfolding fresh table indexIn
 unknown = ap (λ (o : Outcome). o .answer) (step-encoded (settle 60000) both valid-both)
 
 spoiling-marks : Marks spoiling
@@ -210,7 +210,7 @@ wiping : Engine
 wiping c s = record { answer = step c s .answer; store = [] }
 
 wiping-refuted : Isolated wiping → ⊥
-unfolding wiping left naming records decode table placeIn
+unfolding wiping left naming records decode table indexIn
 wiping-refuted i =
     let l : _≡_ {A = ℕ} 0 692 =
     i .alike 2024 4 11 40001 0 (40001 ∷ []) (0 ∷ []) (40001 ∷ []) (0 ∷ []) (settle 40001 ∷ []) (settle 40001 ∷ []) opens-one has-one opens-one has-one refl .3

@@ -3,11 +3,11 @@
 use mathlib.Core.Bool.{Bool, true, false}
 use mathlib.Core.List.{List}
 use Prim.Native.Nat.{ℕ}
-use Rattle.codes.specs.Value.{Value}
+use Rattle.synop_codes.specs.Value.{Value}
 use Rattle.daily.specs.Line.{DayLine}
 use Rattle.quality.specs.Cell.{Cell}
 use Rattle.synop.specs.Report.{Report, report}
-use Rattle.contents.specs.declared.Head.{Head}
+use Rattle.synop_contents.specs.declared.Indicators.{Indicators}
 
 -- "Two calls are the same if their kind and their arguments other than the store are, a text byte for byte."
 pub data Call : Type 0 where
@@ -33,27 +33,27 @@ isAccepted (aDay d) = false
 
 -- what is asked of a station: to take a NIL of that day and hour, to take a report with its head and nine values, to settle, to give the
 -- checked cell of an element and slot, to give its day line
-pub data Deed : Type 0 where
-  takeNil : ℕ → ℕ → Deed
-  take : ℕ → ℕ → Head → List Value → Deed
-  settling : Deed
-  giveCell : ℕ → ℕ → Deed
-  giveDay : Deed
+pub data Request : Type 0 where
+  takeNil : ℕ → ℕ → Request
+  take : ℕ → ℕ → Indicators → List Value → Request
+  settling : Request
+  giveCell : ℕ → ℕ → Request
+  giveDay : Request
 
 -- what a call asks: of nobody, with the number 1 to 5 of a text that does not pass; or of a station
 pub data Ask : Type 0 where
-  nobody : ℕ → Ask
-  somebody : ℕ → Deed → Ask
+  unnamed : ℕ → Ask
+  named : ℕ → Request → Ask
 
 -- "A filed text names S exactly if it passes checks 1 to 5 and its IIiii is S."
 abbrev pub askFile : Report → Ask
-askFile (Report.refused n) = nobody n
-askFile (Report.nil h) = somebody (h .station) (takeNil (h .day) (h .hour))
-askFile (Report.whole h head values) = somebody (h .station) (take (h .day) (h .hour) head values)
+askFile (Report.refused n) = unnamed n
+askFile (Report.nil h) = named (h .station) (takeNil (h .day) (h .hour))
+askFile (Report.whole h head values) = named (h .station) (take (h .day) (h .hour) head values)
 
 -- "Settle, cell and day name theirs."
 abbrev pub ask : Call → Ask
 ask (file text) = askFile (report text)
-ask (settle s) = somebody s settling
-ask (cell s e k) = somebody s (giveCell e k)
-ask (day s) = somebody s giveDay
+ask (settle s) = named s settling
+ask (cell s e k) = named s (giveCell e k)
+ask (day s) = named s giveDay

@@ -5,8 +5,8 @@ use mathlib.Core.Bool.{true}
 use mathlib.Core.List.{List, [], _∷_}
 use Prim.Native.Nat.{ℕ, _+_, _<_}
 use lib.ListN.{length, getD}
-use Rattle.layout.specs.Layout.{encode, storeLength, entryLength, blockLength}
-use Rattle.layout.specs.Opening.{openable, fresh}
+use Rattle.store_layout.specs.Layout.{encode, storeLength, entryLength, blockLength}
+use Rattle.store_layout.specs.Opening.{openable, fresh}
 use Rattle.rules.specs.Calls.{Call}
 use Rattle.rules.specs.Runs.{Engine, log, left, naming, namingLog, records}
 

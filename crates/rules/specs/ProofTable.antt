@@ -6,9 +6,9 @@ use mathlib.Core.List.{List, [], _∷_}
 use mathlib.Core.Option as option
 use lib.IntN.{ℤ, pos, negℤ}
 use Rattle.calendar.specs.Dates.{nextDay}
-use Rattle.codes.specs.Tables.{char}
-use Rattle.figures.specs.Elements.{windFf, visibility, rain, pressure}
-use Rattle.codes.specs.Value.{missing, read}
+use Rattle.synop_codes.specs.Tables.{char}
+use Rattle.synop_figures.specs.Elements.{windFf, visibility, rain, pressure}
+use Rattle.synop_codes.specs.Value.{missing, read}
 use Rattle.quality.specs.Cell.{Cell, none, discarded, slot}
 use Rattle.quality.specs.Elements.{temperature}
 use Rattle.quality.specs.Limits.{Limits, limits}

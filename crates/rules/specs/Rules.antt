@@ -1,4 +1,4 @@
--- What a deed does to a station: a function of the date D, the deed and the station alone. "An answer to S may depend on D, S's row, the
+-- What a request does to a station: a function of the date D, the request and the station alone. "An answer to S may depend on D, S's row, the
 -- call itself and S's earlier calls, nothing else."
 -- Assumes nothing.
 use mathlib.Core.Bool.{Bool, cond, _&&_}
@@ -8,16 +8,17 @@ use lib.Dec.{leb, eqb}
 use Rattle.calendar.specs.Slots.{slotOf}
 use Rattle.calendar.specs.declared.Slot.{Slot}
 use Rattle.calendar.specs.declared.Slot.the-variants.{At, Nothing}
-use Rattle.codes.specs.Value.{Value, missing, read}
+use Rattle.synop_codes.specs.Value.{Value, missing, read}
 use Rattle.daily.specs.Line.{dayLine}
-use Rattle.layout.specs.Model.{Head, Block, Station, headOf}
-use Rattle.layout.specs.Deeds.{withSlot, withChecked, withBlock}
+use Rattle.store_layout.specs.Model.{Block, Station, headOf}
+use Rattle.quality.specs.declared.head.SlotHead.{SlotHead}
+use Rattle.store_layout.specs.Updates.{withSlot, withChecked, withBlock}
 use Rattle.quality.specs.Cell.{Cell, none, slot}
 use Rattle.quality.specs.Elements.{column}
 use Rattle.quality.specs.Limits.{warm}
 use Rattle.quality.specs.Settled.{settled}
-use Rattle.contents.specs.declared.Head as synop
-use Rattle.rules.specs.Calls.{Answer, refused, accepted, aCell, aDay, Deed, takeNil, take, settling, giveCell, giveDay}
+use Rattle.synop_contents.specs.declared.Indicators.{Indicators}
+use Rattle.rules.specs.Calls.{Answer, refused, accepted, aCell, aDay, Request, takeNil, take, settling, giveCell, giveDay}
 
 -- the date D
 pub record Date : Type 0 where
@@ -26,9 +27,9 @@ pub record Date : Type 0 where
   pub day : ℕ
 
 -- the station stays as it is, and this is the answer; or it becomes this one, and the call is accepted
-pub data Done : Type 0 where
-  keeps : Answer → Done
-  makes : Station → Done
+pub data Effect : Type 0 where
+  keeps : Answer → Effect
+  makes : Station → Effect
 
 -- a value of a report as a raw cell: state 1 read, or missing
 abbrev pub rawCell : Value → Cell
@@ -36,32 +37,32 @@ rawCell missing = none
 rawCell (read v) = record { state = 1; flag = 0; value = v }
 
 -- the head of a filed slot
-abbrev pub filedHead : synop.Head → Head
-filedHead h = record { filed = 1; iR = h .«rain_indicator»; tR = h .«rain_duration»; dd = h .«wind_direction» }
+abbrev pub filedHead : Indicators → SlotHead
+filedHead h = record { filed = 1; ir = h .«rain_indicator»; tr = h .«rain_duration»; dd = h .«wind_direction» }
 
 -- "Any other accepted report replaces the slot's head and raw cells and clears settled."
-unfoldable pub filed : ℕ → synop.Head → List Value → Station → Station
+unfoldable pub filed : ℕ → Indicators → List Value → Station → Station
 filed k head values t = withBlock (withSlot k (filedHead head) (map rawCell values) (t .block)) 0 t
 
 -- "slot filed already (not for NIL)" is 8
-unfoldable pub fileAt : ℕ → synop.Head → List Value → Station → Done
+unfoldable pub fileAt : ℕ → Indicators → List Value → Station → Effect
 fileAt k head values t = cond (eqb (headOf (t .block) k .filed) 1) (keeps (refused 8)) (makes (filed k head values t))
 
 -- "no such slot" is 7; "NIL is accepted and changes nothing"
-abbrev pub nilIn : Slot → Done
+abbrev pub nilIn : Slot → Effect
 nilIn Nothing = keeps (refused 7)
 nilIn (At k) = keeps accepted
 
-abbrev pub fileIn : Slot → synop.Head → List Value → Station → Done
+abbrev pub fileIn : Slot → Indicators → List Value → Station → Effect
 fileIn Nothing head values t = keeps (refused 7)
 fileIn (At k) head values t = fileAt k head values t
 
 -- each slot's dd; each slot's tR
 abbrev pub directions : Block → List ℕ
-directions b = map (λ (h : Head). h .dd) (b .heads)
+directions b = map (λ (h : SlotHead). h .dd) (b .heads)
 
 abbrev pub durations : Block → List ℕ
-durations b = map (λ (h : Head). h .tR) (b .heads)
+durations b = map (λ (h : SlotHead). h .tr) (b .heads)
 
 -- "Raw cells are copied to the checked cells, then four steps. .. Settled becomes 1."
 unfoldable pub settledStation : Date → Station → Station
@@ -76,7 +77,7 @@ cellOf e k t =
 unfoldable pub dayOf : Station → Answer
 dayOf t = cond (eqb (t .settled) 1) (aDay (dayLine (durations (t .block)) (t .block .checked))) (refused 11)
 
-unfoldable pub rule : Date → Deed → Station → Done
+unfoldable pub rule : Date → Request → Station → Effect
 rule d (takeNil yy gg) t = nilIn (slotOf (d .year) (d .month) (d .day) yy gg)
 rule d (take yy gg head values) t = fileIn (slotOf (d .year) (d .month) (d .day) yy gg) head values t
 rule d settling t = makes (settledStation d t)

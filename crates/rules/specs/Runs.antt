@@ -6,9 +6,9 @@ use mathlib.Core.List.{List, [], _∷_, _++_}
 use Prim.Native.Nat.{ℕ}
 use lib.Dec.{eqb}
 use lib.ListN.{length, take, drop}
-use Rattle.layout.specs.Layout.{decode, entryAt, entryLength, blockAt, blockLength}
-use Rattle.layout.specs.Place.{Place, nowhere, place, placeIn, numbers}
-use Rattle.rules.specs.Calls.{Call, Answer, Ask, nobody, somebody, ask}
+use Rattle.store_layout.specs.Layout.{decode, entryAt, entryLength, blockAt, blockLength}
+use Rattle.store_layout.specs.Index.{Index, nowhere, index, indexIn, numbers}
+use Rattle.rules.specs.Calls.{Call, Answer, Ask, unnamed, named, ask}
 use Rattle.rules.specs.Step.{Outcome}
 
 -- an engine: what it answers to a call on the bytes of a store, and the bytes that it leaves. Ours is `step`
@@ -32,8 +32,8 @@ module _ (engine : Engine) where
 
 -- a call names the station x
 abbrev pub asks : Ask → ℕ → Bool
-asks (nobody n) x = false
-asks (somebody y deed) x = eqb y x
+asks (unnamed n) x = false
+asks (named y request) x = eqb y x
 
 abbrev pub names : ℕ → Call → Bool
 names x c = asks (ask c) x
@@ -48,9 +48,9 @@ namingLog x [] = []
 namingLog x (l ∷ ls) = cond (names x (l .call)) (l ∷ namingLog x ls) (namingLog x ls)
 
 -- "S's records are all bytes of its station entry and of its block, wherever these lie.": none where the store has no S
-abbrev pub recordsAt : Place → ℕ → List ℕ → List ℕ
+abbrev pub recordsAt : Index → ℕ → List ℕ → List ℕ
 recordsAt nowhere n s = []
-recordsAt (place i) n s = take entryLength (drop (entryAt i) s) ++ take blockLength (drop (blockAt n i) s)
+recordsAt (index i) n s = take entryLength (drop (entryAt i) s) ++ take blockLength (drop (blockAt n i) s)
 
 unfoldable pub records : ℕ → List ℕ → List ℕ
-records x s = recordsAt (placeIn (numbers (decode s)) x) (length (decode s .stations)) s
+records x s = recordsAt (indexIn (numbers (decode s)) x) (length (decode s .stations)) s

@@ -4,13 +4,13 @@
 use mathlib.Core.Bool.{cond}
 use mathlib.Core.List.{List}
 use Prim.Native.Nat.{ℕ}
-use Rattle.layout.specs.Model.{Store, stationAt}
-use Rattle.layout.specs.Layout.{encode, decode}
-use Rattle.layout.specs.Sound.{sound}
-use Rattle.layout.specs.Place.{Place, nowhere, place, placeIn, numbers}
-use Rattle.layout.specs.Deeds.{withStation}
-use Rattle.rules.specs.Calls.{Call, Answer, refused, accepted, Ask, nobody, somebody, ask}
-use Rattle.rules.specs.Rules.{Date, Done, keeps, makes, rule}
+use Rattle.store_layout.specs.Model.{Store, stationAt}
+use Rattle.store_layout.specs.Layout.{encode, decode}
+use Rattle.store_layout.specs.Sound.{sound}
+use Rattle.store_layout.specs.Index.{Index, nowhere, index, indexIn, numbers}
+use Rattle.store_layout.specs.Updates.{withStation}
+use Rattle.rules.specs.Calls.{Call, Answer, refused, accepted, Ask, unnamed, named, ask}
+use Rattle.rules.specs.Rules.{Date, Effect, keeps, makes, rule}
 
 -- the answer, and the bytes of the store at exit
 pub record Outcome : Type 0 where
@@ -24,19 +24,19 @@ dateOf m = record { year = m .year; month = m .month; day = m .day }
 abbrev pub unchanged : Answer → List ℕ → Outcome
 unchanged a s = record { answer = a; store = s }
 
--- what a deed on the station at place i leaves, where the store's bytes s are those of m
-abbrev pub after : Done → ℕ → Store → List ℕ → Outcome
+-- what a request on the station at index i leaves, where the store's bytes s are those of m
+abbrev pub after : Effect → ℕ → Store → List ℕ → Outcome
 after (keeps a) i m s = unchanged a s
 after (makes t) i m s = record { answer = accepted; store = encode (withStation i t m) }
 
 -- "station not in the store" is 6
-abbrev pub at : Place → (ℕ → Outcome) → List ℕ → Outcome
+abbrev pub at : Index → (ℕ → Outcome) → List ℕ → Outcome
 at nowhere f s = unchanged (refused 6) s
-at (place i) f s = f i
+at (index i) f s = f i
 
 abbrev pub asked : Ask → Store → List ℕ → Outcome
-asked (nobody n) m s = unchanged (refused n) s
-asked (somebody x deed) m s = at (placeIn (numbers m) x) (λ i. after (rule (dateOf m) deed (stationAt (m .stations) i)) i m s) s
+asked (unnamed n) m s = unchanged (refused n) s
+asked (named x request) m s = at (indexIn (numbers m) x) (λ i. after (rule (dateOf m) request (stationAt (m .stations) i)) i m s) s
 
 -- "unsound store" is 9, before all others
 unfoldable pub step : Call → List ℕ → Outcome

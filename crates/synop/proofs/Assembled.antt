@@ -6,27 +6,27 @@ use mathlib.Core.List.{List}
 use Prim.Native.Nat.{ℕ}
 use native.Mathlib.Omega.{arith}
 use borrow.Author.Tests.{ne-eqb}
-use Rattle.codes.specs.Value as codes
-use Rattle.text.specs.Kinds.{tokens}
-use Rattle.text.specs.declared.Group.{Group}
-use Rattle.checks.specs.Bytes.{check1, check2, ofBytes}
-use Rattle.checks.specs.Refusal.{ofGroups, refusal}
-use Rattle.places.specs.Places.{isNil}
-use Rattle.places.specs.declared.Place.{Place}
+use Rattle.synop_codes.specs.Value as codes
+use Rattle.synop_text.specs.Kinds.{tokens}
+use Rattle.synop_text.specs.declared.Group.{Group}
+use Rattle.synop_checks.specs.Bytes.{check1, check2, ofBytes}
+use Rattle.synop_checks.specs.Refusal.{ofGroups, refusal}
+use Rattle.synop_order.specs.Places.{isNil}
+use Rattle.synop_order.specs.declared.Place.{Place}
 use Rattle.laws.proofs.Bools.{via}
-use Rattle.parts.specs.Parts as parts
-use Rattle.contents.specs.Contents.{headingOf, headOf}
+use Rattle.synop_parts.specs.Parts as parts
+use Rattle.synop_contents.specs.Contents.{identificationOf, indicatorsOf}
 use Rattle.synop.specs.Report.{refused, nil, whole, part, rainGroup, valuesIn, content, read, report}
-use Rattle.contents.specs.declared.Heading.{Heading}
-use Rattle.contents.specs.declared.Head.{Head}
+use Rattle.synop_contents.specs.declared.Identification.{Identification}
+use Rattle.synop_contents.specs.declared.Indicators.{Indicators}
 
 module _ (kept : List Group) where
-  module _ (p : Place) {h : Heading} (eh : h ≡ headingOf (part kept parts.time) (part kept parts.station)) {b : Bool} (eb : b ≡ isNil p) where
+  module _ (p : Place) {h : Identification} (eh : h ≡ identificationOf (part kept parts.time) (part kept parts.station)) {b : Bool} (eb : b ≡ isNil p) where
     pub as-nil : b ≡ true → nil h ≡ content p kept
     unfolding content
     as-nil t = rw (via eb t, eh)
 
-    pub as-whole : b ≡ false → {g : Group} {d : Head} {v : List codes.Value} → g ≡ rainGroup kept → d ≡ headOf (part kept parts.visibility) (part kept parts.wind) g → v ≡ valuesIn kept g
+    pub as-whole : b ≡ false → {g : Group} {d : Indicators} {v : List codes.Value} → g ≡ rainGroup kept → d ≡ indicatorsOf (part kept parts.visibility) (part kept parts.wind) g → v ≡ valuesIn kept g
         → whole h d v ≡ content p kept
     unfolding content
     as-whole t eg ed ev = rw (via eb t, eh, ed, ev, eg)

@@ -5,21 +5,21 @@ use mathlib.Core.List.{List, [], _∷_}
 use Prim.Native.Nat.{ℕ}
 use lib.IntN.{pos}
 use Rattle.laws.specs.Table.{table}
-use Rattle.codes.specs.Tables as tables
-use Rattle.figures.specs.Digits.{two, three, four}
-use Rattle.figures.specs.Elements as elements
-use Rattle.figures.specs.Heads as heads
-use Rattle.codes.specs.Value.{missing, read}
-use Rattle.text.specs.Characters.{areFigures}
-use Rattle.text.specs.Groups.{cut}
-use Rattle.text.specs.Kinds as kinds
-use Rattle.places.specs.Places as places
-use Rattle.checks.specs.Bytes.{ended, check1, isKnown, check2}
-use Rattle.checks.specs.Shapes.{areDigits, shapedFrom}
-use Rattle.checks.specs.Ranges.{isDay, isHour, isUnit, isTime, isStation, rangedFrom}
-use Rattle.checks.specs.Refusal.{ofGroups, refusal}
-use Rattle.contents.specs.Contents as contents
-use Rattle.parts.specs.Parts as parts
+use Rattle.synop_codes.specs.Tables as tables
+use Rattle.synop_figures.specs.Digits.{two, three, four}
+use Rattle.synop_figures.specs.Elements as elements
+use Rattle.synop_figures.specs.Heads as heads
+use Rattle.synop_codes.specs.Value.{missing, read}
+use Rattle.synop_text.specs.Characters.{areFigures}
+use Rattle.synop_text.specs.Groups.{cut}
+use Rattle.synop_text.specs.Kinds as kinds
+use Rattle.synop_order.specs.Places as places
+use Rattle.synop_checks.specs.Bytes.{ended, check1, isKnown, check2}
+use Rattle.synop_checks.specs.Shapes.{areDigits, shapedFrom}
+use Rattle.synop_checks.specs.Ranges.{isDay, isHour, isUnit, isTime, isStation, rangedFrom}
+use Rattle.synop_checks.specs.Refusal.{ofGroups, refusal}
+use Rattle.synop_contents.specs.Contents as contents
+use Rattle.synop_parts.specs.Parts as parts
 use Rattle.synop.specs.Report as reports
 use Rattle.synop.specs.Report.{Report, whole, report}
 
@@ -60,5 +60,5 @@ pub record Examples : Type 0 where
       (read (pos 103) ∷ read (pos 71) ∷ read (pos 10132) ∷ read (pos 40) ∷ read (pos 6) ∷ read (pos 100) ∷ read (pos 40) ∷ missing ∷ missing ∷ [])
 
 pub examples : Examples
-unfolding table two three four elements.temperature tables.temperatureOf elements.pressure tables.pressureOf elements.windFf tables.windOf elements.cloud tables.cloudOf elements.visibility tables.visibilityOf elements.rain tables.rainOf heads.rainIndicator tables.rainIndicatorOf heads.windDirection tables.windDirectionOf heads.rainDuration heads.rainDurationOf areFigures cut kinds.kindOf kinds.ofThree kinds.ofFour kinds.ofFive places.aaxxAfter places.opened places.ordered places.firstOfOne places.final places.complete ended check1 isKnown check2 areDigits shapedFrom isDay isHour isUnit isTime isStation rangedFrom ofGroups refusal contents.charactersOf contents.twoOf contents.stationOf contents.headingOf contents.headOf contents.temperatureOf contents.pressureOf contents.cloudOf contents.visibilityOf contents.rainOf contents.ffOf contents.windOf contents.valuesOf parts.ofOne parts.ofThree parts.ofLater parts.first parts.parts reports.valuesIn reports.content reports.read report
+unfolding table two three four elements.temperature tables.temperatureOf elements.pressure tables.pressureOf elements.windFf tables.windOf elements.cloud tables.cloudOf elements.visibility tables.visibilityOf elements.rain tables.rainOf heads.rainIndicator tables.rainIndicatorOf heads.windDirection tables.windDirectionOf heads.rainDuration heads.rainDurationOf areFigures cut kinds.kindOf kinds.ofThree kinds.ofFour kinds.ofFive places.aaxxAfter places.opened places.ordered places.firstOfOne places.final places.complete ended check1 isKnown check2 areDigits shapedFrom isDay isHour isUnit isTime isStation rangedFrom ofGroups refusal contents.charactersOf contents.twoOf contents.stationOf contents.identificationOf contents.indicatorsOf contents.temperatureOf contents.pressureOf contents.cloudOf contents.visibilityOf contents.rainOf contents.ffOf contents.windOf contents.valuesOf parts.ofOne parts.ofThree parts.ofLater parts.first parts.parts reports.valuesIn reports.content reports.read report
 examples = record { one = refl; two = refl; three = refl; four = refl; five = refl; day = refl }

@@ -9,34 +9,34 @@ use lib.Dec.{T, leb, eqb, lit<, lit≤}
 use borrow.Author.Tests.{leb-true, leb-false, eqb-true, eqb-false}
 use Rattle.laws.specs.Table.{table}
 use Rattle.laws.proofs.Bools.{and-left, and-right, Known, is-true, is-false, known}
-use Rattle.figures.specs.Digits.{digit, two, three, four, given}
+use Rattle.synop_figures.specs.Digits.{digit, two, three, four, given}
 use Rattle.laws.proofs.Bools.{by-cond}
-use Rattle.figures.proofs.Numbers.{digit-below, four-below}
-use Rattle.figures.specs.declared.Number.{Number}
-use Rattle.figures.specs.declared.Number.the-variants.{Slash, Digits}
-use Rattle.text.specs.Characters.{isDigit}
-use Rattle.text.specs.Kinds.{tokens}
-use Rattle.text.specs.declared.Group.{Group}
-use Rattle.text.specs.declared.Group.the-variants.{Other, Aaxx, Nil, Section, Five}
-use Rattle.checks.specs.Bytes.{check1, check2}
-use Rattle.places.specs.Places as places
-use Rattle.places.specs.Places.{final, check5}
-use Rattle.checks.specs.Shapes.{areDigits, shapedFrom, check3}
-use Rattle.checks.specs.Ranges.{isDay, isHour, isUnit, isTime, isStation, rangedFrom, check4}
-use Rattle.checks.specs.Refusal.{ofGroups, refusal}
-use Rattle.places.specs.declared.Place.{Place}
-use Rattle.places.specs.declared.Place.the-variants.{Start, Station}
-use Rattle.parts.specs.Parts as parts
-use Rattle.parts.specs.Parts.{first}
-use Rattle.contents.specs.Contents.{charactersOf, numberOf, twoOf, stationOf, headingOf}
-use Rattle.contents.proofs.Numbers.{number-below}
-use Rattle.contents.proofs.Ranges.{Headed, Valued, headed, valued}
+use Rattle.synop_figures.proofs.Numbers.{digit-below, four-below}
+use Rattle.synop_figures.specs.declared.Number.{Number}
+use Rattle.synop_figures.specs.declared.Number.the-variants.{Slash, Digits}
+use Rattle.synop_text.specs.Characters.{isDigit}
+use Rattle.synop_text.specs.Kinds.{tokens}
+use Rattle.synop_text.specs.declared.Group.{Group}
+use Rattle.synop_text.specs.declared.Group.the-variants.{Other, Aaxx, Nil, Section, Five}
+use Rattle.synop_checks.specs.Bytes.{check1, check2}
+use Rattle.synop_order.specs.Places as places
+use Rattle.synop_order.specs.Places.{final, check5}
+use Rattle.synop_checks.specs.Shapes.{areDigits, shapedFrom, check3}
+use Rattle.synop_checks.specs.Ranges.{isDay, isHour, isUnit, isTime, isStation, rangedFrom, check4}
+use Rattle.synop_checks.specs.Refusal.{ofGroups, refusal}
+use Rattle.synop_order.specs.declared.Place.{Place}
+use Rattle.synop_order.specs.declared.Place.the-variants.{Start, Station}
+use Rattle.synop_parts.specs.Parts as parts
+use Rattle.synop_parts.specs.Parts.{first}
+use Rattle.synop_contents.specs.Contents.{charactersOf, numberOf, twoOf, stationOf, identificationOf}
+use Rattle.synop_contents.proofs.Numbers.{number-below}
+use Rattle.synop_contents.proofs.Ranges.{Headed, Valued, headed, valued}
 use Rattle.synop.specs.Report.{Report, refused, nil, whole, part, rainGroup, valuesIn, content, read, report}
-use Rattle.contents.specs.declared.Heading.{Heading}
+use Rattle.synop_contents.specs.declared.Identification.{Identification}
 
 -- ---- the ranges
 -- IIiii 1 to 99999, YY 1 to 31, GG 0 to 23
-pub record Named (h : Heading) : Type 0 where
+pub record Named (h : Identification) : Type 0 where
   pub station-least : 1 ≤ h .station
   pub station-most : h .station ≤ 99999
   pub day-least : 1 ≤ h .day
@@ -146,8 +146,8 @@ module _ (f g h i j : ℕ) (digits : areDigits f g h i j ≡ true) where
           absurd (all-0 (omega arith) (omega arith) (omega arith) (omega arith) (omega arith))
 
 named : (a b c d e f g h i j : ℕ) → isTime a b c d e ≡ true → areDigits f g h i j ≡ true → isStation f g h i j ≡ true
-    → Named (headingOf (Five a b c d e) (Five f g h i j))
-unfolding isTime isDay isHour headingOf charactersOf twoOf stationOf
+    → Named (identificationOf (Five a b c d e) (Five f g h i j))
+unfolding isTime isDay isHour identificationOf charactersOf twoOf stationOf
 named a b c d e f g h i j time digits station =
     record {
       station-least = rw (is-number f g h i j digits) (above-0 f g h i j digits station);
@@ -170,7 +170,7 @@ named a b c d e f g h i j time digits station =
     hour = given-true (two c d) (λ gg. leb gg 23) (and-right (isDay a b) (isHour c d) first-two)
 
 -- ---- the whole
-heading-named : (gs : List Group) → Begins gs → Named (headingOf (part (parts.parts gs) parts.time) (part (parts.parts gs) parts.station))
+heading-named : (gs : List Group) → Begins gs → Named (identificationOf (part (parts.parts gs) parts.time) (part (parts.parts gs) parts.station))
 unfolding parts.parts table first places.aaxxAfter
 heading-named gs (begins a b c d e f g h i j rest time digits station) = named a b c d e f g h i j time digits station
 

@@ -6,13 +6,13 @@ use Prim.Native.Nat.{ℕ}
 use lib.Dec.{eqb}
 use borrow.Author.Tests.{eqb-true}
 use Rattle.laws.proofs.Bools.{by-cond}
-use Rattle.text.specs.Kinds.{tokens}
-use Rattle.text.specs.declared.Group.{Group}
-use Rattle.places.specs.Places.{isNil, final}
-use Rattle.checks.specs.Refusal.{refusal}
-use Rattle.places.specs.declared.Place.{Place}
-use Rattle.places.specs.declared.Place.the-variants.{Start}
-use Rattle.parts.specs.Parts.{parts}
+use Rattle.synop_text.specs.Kinds.{tokens}
+use Rattle.synop_text.specs.declared.Group.{Group}
+use Rattle.synop_order.specs.Places.{isNil, final}
+use Rattle.synop_checks.specs.Refusal.{refusal}
+use Rattle.synop_order.specs.declared.Place.{Place}
+use Rattle.synop_order.specs.declared.Place.the-variants.{Start}
+use Rattle.synop_parts.specs.Parts.{parts}
 use Rattle.synop.specs.Report.{Report, refused, nil, whole, content, read, report}
 
 abbrev pub numberIn : Report → ℕ

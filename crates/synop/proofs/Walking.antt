@@ -15,19 +15,19 @@ use lib.Seq.{getD-set-same, getD-set-other}
 use borrow.Author.Tests.{eqb-true, eqb-false}
 use Rattle.laws.proofs.Bools.{Known, is-true, is-false, known, via}
 use Rattle.laws.proofs.Tables.{is-table}
-use Rattle.text.specs.Kinds.{tokens}
-use Rattle.text.specs.Walk.{Kind}
-use Rattle.text.specs.declared.Group.{Group}
-use Rattle.text.specs.declared.Group.the-variants.{Other}
-use Rattle.places.specs.Places.{begun, next, final, complete}
-use Rattle.checks.specs.Shapes.{shaped, shapedFrom, check3}
-use Rattle.checks.specs.Ranges.{ranged, rangedFrom, check4}
-use Rattle.checks.specs.Refusal.{ofGroups}
-use Rattle.places.specs.declared.Place.{Place}
-use Rattle.places.specs.declared.Place.the-variants.{Start}
-use Rattle.parts.specs.Parts.{partOf, firstOf, first, parts}
+use Rattle.synop_text.specs.Kinds.{tokens}
+use Rattle.synop_text.specs.Walk.{Kind}
+use Rattle.synop_text.specs.declared.Group.{Group}
+use Rattle.synop_text.specs.declared.Group.the-variants.{Other}
+use Rattle.synop_order.specs.Places.{begun, next, final, complete}
+use Rattle.synop_checks.specs.Shapes.{shaped, shapedFrom, check3}
+use Rattle.synop_checks.specs.Ranges.{ranged, rangedFrom, check4}
+use Rattle.synop_checks.specs.Refusal.{ofGroups}
+use Rattle.synop_order.specs.declared.Place.{Place}
+use Rattle.synop_order.specs.declared.Place.the-variants.{Start}
+use Rattle.synop_parts.specs.Parts.{partOf, firstOf, first, parts}
 use Rattle.synop.specs.Report.{Report, refused, content, read, answered}
-use Rattle.parts.proofs.Laws.{part-below, first-assoc, first-none}
+use Rattle.synop_parts.proofs.Laws.{part-below, first-assoc, first-none}
 
 -- the groups before `at` have their shapes; p is the place of the last of them, `good` says whether all are in range, and `kept`
 -- has the parts among them

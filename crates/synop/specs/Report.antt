@@ -5,26 +5,26 @@ use mathlib.Core.List.{List}
 use Prim.Native.Nat.{ℕ}
 use lib.Dec.{eqb}
 use lib.ListN.{getD}
-use Rattle.codes.specs.Value as codes
-use Rattle.text.specs.Kinds.{tokens}
-use Rattle.text.specs.declared.Group.{Group}
-use Rattle.text.specs.declared.Group.the-variants.{Other}
-use Rattle.places.specs.Places.{begun, isNil, final, complete}
-use Rattle.checks.specs.Refusal.{ofGroups, refusal}
-use Rattle.places.specs.declared.Place.{Place}
-use Rattle.places.specs.declared.Place.the-variants.{Start}
-use Rattle.parts.specs.Parts as parts
-use Rattle.parts.specs.Parts.{firstOf}
-use Rattle.contents.specs.Contents.{headingOf, headOf, valuesOf, listed}
-use Rattle.contents.specs.declared.Heading.{Heading}
-use Rattle.contents.specs.declared.Head.{Head}
+use Rattle.synop_codes.specs.Value as codes
+use Rattle.synop_text.specs.Kinds.{tokens}
+use Rattle.synop_text.specs.declared.Group.{Group}
+use Rattle.synop_text.specs.declared.Group.the-variants.{Other}
+use Rattle.synop_order.specs.Places.{begun, isNil, final, complete}
+use Rattle.synop_checks.specs.Refusal.{ofGroups, refusal}
+use Rattle.synop_order.specs.declared.Place.{Place}
+use Rattle.synop_order.specs.declared.Place.the-variants.{Start}
+use Rattle.synop_parts.specs.Parts as parts
+use Rattle.synop_parts.specs.Parts.{firstOf}
+use Rattle.synop_contents.specs.Contents.{identificationOf, indicatorsOf, valuesOf, listed}
+use Rattle.synop_contents.specs.declared.Identification.{Identification}
+use Rattle.synop_contents.specs.declared.Indicators.{Indicators}
 use Rattle.synop.specs.declared.Report as code
 use Rattle.synop.specs.declared.Report.the-variants.{Refused, Nil, Whole}
 
 pub data Report : Type 0 where
   refused : ℕ → Report
-  nil : Heading → Report
-  whole : Heading → Head → List codes.Value → Report
+  nil : Identification → Report
+  whole : Identification → Indicators → List codes.Value → Report
 
 -- ---- the parts together
 abbrev pub part : List Group → ℕ → Group
@@ -49,9 +49,9 @@ valuesIn kept rain =
 -- a report that passes, by the place of its last group and its parts
 unfoldable pub content : Place → List Group → Report
 content p kept =
-    cond (isNil p) (nil (headingOf (part kept parts.time) (part kept parts.station)))
-    (whole (headingOf (part kept parts.time) (part kept parts.station))
-    (headOf (part kept parts.visibility) (part kept parts.wind) (rainGroup kept))
+    cond (isNil p) (nil (identificationOf (part kept parts.time) (part kept parts.station)))
+    (whole (identificationOf (part kept parts.time) (part kept parts.station))
+    (indicatorsOf (part kept parts.visibility) (part kept parts.wind) (rainGroup kept))
     (valuesIn kept (rainGroup kept)))
 
 -- n is the number of the first check that fails, or 0

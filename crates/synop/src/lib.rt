@@ -1,37 +1,37 @@
 // A SYNOP report read: from the bytes of a text to the number that it is refused with, or to its station, day and hour and, unless
 // it is `NIL`, its head and its nine values.
 ghost use mathlib.Core.Path.{_≡_};
-ghost use Rattle.text.specs.Kinds.{tokens};
-ghost use Rattle.checks.specs.Refusal as refusals;
-ghost use Rattle.contents.specs.Contents.{listed};
+ghost use Rattle.synop_text.specs.Kinds.{tokens};
+ghost use Rattle.synop_checks.specs.Refusal as refusals;
+ghost use Rattle.synop_contents.specs.Contents.{listed};
 ghost use Rattle.synop.specs.Report as reports;
-use contents::Head;
-use contents::Heading;
-use contents::Values;
-use parts::DEW_POINT;
-use parts::GALE;
-use parts::LATER_RAIN;
-use parts::MAXIMUM;
-use parts::MINIMUM;
-use parts::PRESSURE;
-use parts::RAIN;
-use parts::STATION;
-use parts::TEMPERATURE;
-use parts::TIME;
-use parts::VISIBILITY;
-use parts::WIND;
-use parts::first_of;
-use parts::part_of;
-use places::Place;
-use text::Cursor;
-use text::Group;
-use text::Token;
+use synop_contents::Identification;
+use synop_contents::Indicators;
+use synop_contents::Values;
+use synop_order::Place;
+use synop_parts::DEW_POINT;
+use synop_parts::GALE;
+use synop_parts::LATER_RAIN;
+use synop_parts::MAXIMUM;
+use synop_parts::MINIMUM;
+use synop_parts::PRESSURE;
+use synop_parts::RAIN;
+use synop_parts::STATION;
+use synop_parts::TEMPERATURE;
+use synop_parts::TIME;
+use synop_parts::VISIBILITY;
+use synop_parts::WIND;
+use synop_parts::first_of;
+use synop_parts::part_of;
+use synop_text::Cursor;
+use synop_text::Group;
+use synop_text::Token;
 
 // What a text is: refused with a number 1 to 5, a report that says nothing, or a whole one.
 pub enum Report {
     Refused(u8),
-    Nil(Heading),
-    Whole(Heading, Head, Values),
+    Nil(Identification),
+    Whole(Identification, Indicators, Values),
 }
 
 // ---- what the parts hold
@@ -40,7 +40,7 @@ pub enum Report {
 fn values_in(kept: [Group; 13], rain: Group) -> Values
     ensures { λ r. ⌜ listed r ≡ reports.valuesIn kept rain ⌝ }
 {
-    contents::values_of(
+    synop_contents::values_of(
         kept[TIME],
         kept[VISIBILITY],
         kept[WIND],
@@ -58,12 +58,12 @@ fn values_in(kept: [Group; 13], rain: Group) -> Values
 fn content(p: Place, kept: [Group; 13]) -> Report
     ensures { λ r. ⌜ reports.meaning r ≡ reports.content p kept ⌝ }
 {
-    let heading = contents::heading_of(kept[TIME], kept[STATION]);
-    if places::is_nil(p) {
+    let heading = synop_contents::identification_of(kept[TIME], kept[STATION]);
+    if synop_order::is_nil(p) {
         return Report::Nil(heading);
     }
     let rain = first_of(kept[RAIN], kept[LATER_RAIN]);
-    let head = contents::head_of(kept[VISIBILITY], kept[WIND], rain);
+    let head = synop_contents::indicators_of(kept[VISIBILITY], kept[WIND], rain);
     Report::Whole(heading, head, values_in(kept, rain))
 }
 
@@ -71,9 +71,9 @@ fn content(p: Place, kept: [Group; 13]) -> Report
 fn answer(p: Place, ranged: bool, kept: [Group; 13]) -> Report
     ensures { λ r. ⌜ reports.meaning r ≡ reports.answered p ranged kept ⌝ }
 {
-    if places::begun(p) {
+    if synop_order::begun(p) {
         if ranged {
-            if places::complete(p) {
+            if synop_order::complete(p) {
                 return content(p, kept);
             }
             return Report::Refused(5);
@@ -97,11 +97,11 @@ fn walk(text: &[u8]) -> Report
         let Token::Group(g, next) = c.take(text) else {
             return answer(place, ranged, kept);
         };
-        if !checks::shaped(place, g) {
+        if !synop_checks::shaped(place, g) {
             return Report::Refused(3);
         }
-        ranged = ranged & checks::ranged(place, g);
-        place = places::next(place, g);
+        ranged = ranged & synop_checks::ranged(place, g);
+        place = synop_order::next(place, g);
         let k = part_of(place, g);
         let old = kept[k];
         kept[k] = first_of(old, g);
@@ -113,7 +113,7 @@ fn walk(text: &[u8]) -> Report
 pub fn read(text: &[u8]) -> Report
     ensures { λ r. ⌜ reports.meaning r ≡ reports.report (now (text .entry)) ⌝ }
 {
-    let n = checks::of_bytes(text);
+    let n = synop_checks::of_bytes(text);
     if n != 0 {
         return Report::Refused(n);
     }

@@ -6,7 +6,7 @@ use native.Mathlib.Nat.{div-le-of-le-mul}
 use native.Mathlib.Omega.{arith}
 use borrow.Author.Tests.{lt-ltb, le-ltb}
 use lib.IntN.{ℤ, natAbs, subℕ}
-use Rattle.vapour.specs.Vapour.{S, q, term, total, Z, entry}
+use Rattle.vapour.specs.Vapour.{S, q, term, sumTo, Z, entry}
 use Rattle.laws.proofs.Differences.{plus}
 
 -- q from |t|, and its bound
@@ -17,12 +17,12 @@ pub q-most : (i n : ℕ) → n ≤ 500 → 1767 * n * S / (100 * (i + 1935)) ≤
 q-most i n h = div-le-of-le-mul (100 * (i + 1935)) (omega arith)
 
 -- Z from q
-Z-at : (t : ℤ) (r z : ℕ) → r ≡ q t → z ≡ total (term r) 30 → z ≡ Z t
+Z-at : (t : ℤ) (r z : ℕ) → r ≡ q t → z ≡ sumTo (term r) 30 → z ≡ Z t
 unfolding Z
 Z-at t r z e h = rw (← e) h
 
 -- the entry from Z, on either side of 0
-module _ (i r z : ℕ) (e : r ≡ q (subℕ i 500)) (h : z ≡ total (term r) 30) where
+module _ (i r z : ℕ) (e : r ≡ q (subℕ i 500)) (h : z ≡ sumTo (term r) 30) where
   pub entry-below : i < 500 → (1224 * S + z) / (2 * z) ≡ entry (subℕ i 500)
   unfolding entry
   entry-below l = rw (Z-at (subℕ i 500) r z e h, lt-ltb i 500 l)

@@ -6,15 +6,15 @@ use Prim.Native.Nat.{ℕ, zero, suc, _+_, _*_, _/_, _≤_}
 use native.Mathlib.Nat.{le-refl, le-trans, mul-le-mul, div-le-of-le-mul}
 use native.Mathlib.Numerals.{add-one}
 use native.Mathlib.Omega.{arith}
-use Rattle.vapour.specs.Vapour.{S, term, total}
-use Rattle.vapour.proofs.Pass.{term-suc, total-suc}
+use Rattle.vapour.specs.Vapour.{S, term, sumTo}
+use Rattle.vapour.proofs.Pass.{term-suc, sumTo-suc}
 
 -- one turn of the loop: the next term and the next sum
 pub term-next : (q k t : ℕ) → t ≡ term q k → t * q / (S * (k + 1)) ≡ term q (k + 1)
 term-next q k t e = rw (add-one, term-suc, e)
 
-pub total-next : (f : ℕ → ℕ) (k z u : ℕ) → z ≡ total f k → u ≡ f (k + 1) → z + u ≡ total f (k + 1)
-total-next f k z u e h = rw (e, h, add-one, total-suc)
+pub sumTo-next : (f : ℕ → ℕ) (k z u : ℕ) → z ≡ sumTo f k → u ≡ f (k + 1) → z + u ≡ sumTo f (k + 1)
+sumTo-next f k z u e h = rw (e, h, add-one, sumTo-suc)
 
 -- term k is at most so many S
 abbrev cap : ℕ → ℕ
@@ -52,12 +52,12 @@ module _ (q : ℕ) (h : q ≤ 5 * S) where
   product-most k t e = rw e (mul-le-mul (term-most k) h)
 
   -- the sum of terms 0 to k
-  pub total-most : (k : ℕ) → total (term q) k ≤ 28 * S * suc k
-  unfolding total term
-  total-most zero = omega arith
-  total-most (suc k) = rw total-suc (omega (arith, total-most k, term-most (suc k)))
+  pub sumTo-most : (k : ℕ) → sumTo (term q) k ≤ 28 * S * suc k
+  unfolding sumTo term
+  sumTo-most zero = omega arith
+  sumTo-most (suc k) = rw sumTo-suc (omega (arith, sumTo-most k, term-most (suc k)))
 
-pub total-least : (q k : ℕ) → S ≤ total (term q) k
-unfolding total term
-total-least q zero = le-refl S
-total-least q (suc k) = rw total-suc (omega (arith, total-least q k))
+pub sumTo-least : (q k : ℕ) → S ≤ sumTo (term q) k
+unfolding sumTo term
+sumTo-least q zero = le-refl S
+sumTo-least q (suc k) = rw sumTo-suc (omega (arith, sumTo-least q k))

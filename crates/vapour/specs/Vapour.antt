@@ -24,13 +24,13 @@ term q zero = S
 term q (suc k) = term q k * q / (S * suc k)
 
 -- f 0 + f 1 + .. + f n
-unfoldable pub total : (ℕ → ℕ) → ℕ → ℕ
-total f zero = f zero
-total f (suc n) = total f n + f (suc n)
+unfoldable pub sumTo : (ℕ → ℕ) → ℕ → ℕ
+sumTo f zero = f zero
+sumTo f (suc n) = sumTo f n + f (suc n)
 
 -- "Z is the sum of terms 0 to 30"
 unfoldable pub Z : ℤ → ℕ
-Z t = total (term (q t)) 30
+Z t = sumTo (term (q t)) 30
 
 -- "Entry: t ≥ 0, floor((1224Z + S) / (2S)); t < 0, floor((1224S + Z) / (2Z))"; `negsuc n` is −(n + 1)
 unfoldable pub entry : ℤ → ℕ

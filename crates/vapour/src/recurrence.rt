@@ -2,7 +2,7 @@
 ghost use mathlib.Core.Path.{_≡_};
 ghost use Prim.Native.Nat.{_*_, _<_, _≤_};
 ghost use lib.IntN.{natAbs, subℕ};
-ghost use Rattle.vapour.specs.Vapour.{S, q, term, total, entry};
+ghost use Rattle.vapour.specs.Vapour.{S, q, term, sumTo, entry};
 
 // The unit in which the terms are counted: a term S stands for 1.
 const S: u64 = 100000000;
@@ -30,7 +30,7 @@ fn quotient(index: u64) -> u64
 // Z, the sum of terms 0 to 30, from q. Each is at most 28S.
 fn sum(q: u64) -> u64
     requires { ⌜ q ≤ 5 * S ⌝ }
-    ensures { λ r. ⌜ (r ≡ total (term q) 30) × (S ≤ r) × (r ≤ 868 * S) ⌝ }
+    ensures { λ r. ⌜ (r ≡ sumTo (term q) 30) × (S ≤ r) × (r ≤ 868 * S) ⌝ }
 {
     let mut term = S;
     let mut z = S;

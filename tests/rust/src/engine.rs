@@ -1,4 +1,4 @@
-//! Safe Rust functions over the engine's C interface (libcapi.a, or the mock of this crate).
+//! Safe Rust functions over the engine's C interface (libesfenruk.a, or the mock of this crate).
 //!
 //! A slice passes as pointer and length, a fixed array as a pointer.
 

@@ -21,9 +21,9 @@ pub mod mock;
 
 /// What stands behind the calls of `Engine`.
 #[cfg(feature = "engine")]
-pub const ENGINE: &str = if cfg!(feature = "mock") { "mock" } else { "libcapi.a" };
+pub const ENGINE: &str = if cfg!(feature = "mock") { "mock" } else { "libesfenruk.a" };
 
-#[cfg(all(feature = "capi", feature = "mock"))]
-compile_error!("choose one engine: the feature `capi` or the feature `mock`");
-#[cfg(all(feature = "engine", not(feature = "capi"), not(feature = "mock")))]
-compile_error!("the feature `engine` needs the feature `capi` or the feature `mock`");
+#[cfg(all(feature = "library", feature = "mock"))]
+compile_error!("choose one engine: the feature `library` or the feature `mock`");
+#[cfg(all(feature = "engine", not(feature = "library"), not(feature = "mock")))]
+compile_error!("the feature `engine` needs the feature `library` or the feature `mock`");

@@ -1,4 +1,4 @@
-//! A stand-in for libcapi.a: the reference behind the same C names, right or with one fault, to see
+//! A stand-in for libesfenruk.a: the reference behind the same C names, right or with one fault, to see
 //! that the comparison notices.
 
 use crate::calls::{Calls, Reference};

@@ -3,10 +3,10 @@
 use mathlib.Core.Path.{_≡_, sym, ap}
 use mathlib.Core.Bool.{true, false}
 use native.Mathlib.Omega.{arith}
-use Rattle.text.specs.Groups.{groups}
-use Rattle.answers.specs.Good.{Good}
-use Rattle.answers.specs.Replies.{reply}
-use Rattle.answers.specs.declared.Reply.{Reply}
+use Rattle.synop_text.specs.Groups.{groups}
+use Rattle.engine_answers.specs.Good.{Good}
+use Rattle.engine_answers.specs.Replies.{reply}
+use Rattle.engine_answers.specs.declared.Reply.{Reply}
 use Rattle.bulletin_text.specs.Rebuilt.{heading, rebuilt}
 use Rattle.rules.specs.Calls.{isAccepted}
 use Rattle.bulletin_text.specs.Walk.{Holds}

@@ -1,7 +1,7 @@
 -- `bulletin_text::start_of` meets its contract: two groups are found, or fewer.
 -- Assumes nothing.
 use borrow.Author.Needs.{needs}
-use Rattle.text.specs.Walk.{Bounds}
+use Rattle.synop_text.specs.Walk.{Bounds}
 use Rattle.bulletin_text.proofs.Headings.{begins-none, begins-one, begins-two}
 use Rattle.bulletin_text.proofs.start_of.Statement.{statement}
 use Rattle.bulletin_text.proofs.start_of.Tie as tie

@@ -1,4 +1,4 @@
--- `feed_all` meets its contract: each turn leaves one turn fewer.
+-- `dayline::feed_all` meets its contract: each turn leaves one turn fewer.
 -- Assumes nothing.
 use borrow.Author.Needs.{needs}
 use mathlib.Core.Path.{_≡_}

@@ -1,4 +1,4 @@
--- `begin` meets its contract.
+-- `dayline_filing::begin` meets its contract.
 -- Assumes nothing.
 use Rattle.dayline_filing.proofs.Filing.{begun}
 use Rattle.dayline_filing.proofs.begin.Statement.{statement}

@@ -1,4 +1,4 @@
--- `feed` meets its contract. The invariant: the first i bytes of the piece are read.
+-- `dayline_filing::feed` meets its contract. The invariant: the first i bytes of the piece are read.
 -- Assumes nothing.
 use borrow.Author.Needs.{needs}
 use mathlib.Core.Path.{sym, _∙_}

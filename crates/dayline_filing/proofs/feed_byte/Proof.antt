@@ -1,4 +1,4 @@
--- `feed_byte` meets its contract.
+-- `dayline_filing::feed_byte` meets its contract.
 -- Assumes nothing.
 use borrow.Author.Needs.{needs}
 use Rattle.dayline_filing.proofs.Filing.{room-more, byte-end, byte-on}

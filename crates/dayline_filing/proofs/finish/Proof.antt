@@ -1,4 +1,4 @@
--- `finish` meets its contract.
+-- `dayline_filing::finish` meets its contract.
 -- Assumes nothing.
 use borrow.Author.Needs.{needs}
 use Rattle.dayline_filing.proofs.Filing.{filed, room-count}

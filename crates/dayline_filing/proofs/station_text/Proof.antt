@@ -1,4 +1,4 @@
--- `station_text` meets its contract.
+-- `dayline_filing::station_text` meets its contract.
 -- Assumes nothing.
 use borrow.Author.Needs.{needs}
 use Rattle.dayline_filing.proofs.Stations.{line-shown, line-none}

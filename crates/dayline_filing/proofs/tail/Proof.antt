@@ -1,4 +1,4 @@
--- `tail` meets its contract.
+-- `dayline_filing::tail` meets its contract.
 -- Assumes nothing.
 use borrow.Author.Needs.{needs}
 use Rattle.dayline_filing.proofs.Filing.{tail-blank, tail-filed}

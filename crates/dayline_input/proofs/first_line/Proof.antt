@@ -1,4 +1,4 @@
--- `first_line` meets its contract: each turn leaves one turn fewer.
+-- `dayline_input::first_line` meets its contract: each turn leaves one turn fewer.
 -- Assumes nothing.
 use borrow.Author.Needs.{needs}
 use mathlib.Core.Path.{_≡_, refl}

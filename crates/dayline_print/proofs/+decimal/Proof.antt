@@ -1,4 +1,4 @@
--- `print::decimal` meets its contract. The measure is the number.
+-- `dayline_print::+decimal` meets its contract. The measure is the number.
 -- Assumes nothing.
 use borrow.Author.Needs.{needs}
 use native.Mathlib.Omega.{arith}

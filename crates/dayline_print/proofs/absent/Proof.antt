@@ -1,4 +1,4 @@
--- `print::absent` meets its contract.
+-- `dayline_print::absent` meets its contract.
 -- Assumes nothing.
 use borrow.Author.Needs.{needs}
 use mathlib.Core.List.{[], _∷_}

@@ -1,4 +1,4 @@
--- `print::counts` meets its contract.
+-- `dayline_print::counts` meets its contract.
 -- Assumes nothing.
 use borrow.Author.Needs.{needs}
 use Rattle.dayline_text.proofs.Keeping.{adds-two}

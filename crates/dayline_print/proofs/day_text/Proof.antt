@@ -1,4 +1,4 @@
--- `print::day_text` meets its contract.
+-- `dayline_print::day_text` meets its contract.
 -- Assumes nothing.
 use borrow.Author.Needs.{needs}
 use Rattle.dayline_print.specs.Printed.{stationText}

@@ -1,4 +1,4 @@
--- `print::measured` meets its contract.
+-- `dayline_print::measured` meets its contract.
 -- Assumes nothing.
 use borrow.Author.Needs.{needs}
 use Rattle.dayline_text.proofs.Keeping.{adds-two}

@@ -1,4 +1,4 @@
--- `print::number` meets its contract.
+-- `dayline_print::number` meets its contract.
 -- Assumes nothing.
 use borrow.Author.Needs.{needs}
 use mathlib.Core.List.{[], _∷_}

@@ -1,4 +1,4 @@
--- `print::rain` meets its contract.
+-- `dayline_print::rain` meets its contract.
 -- Assumes nothing.
 use borrow.Author.Needs.{needs}
 use mathlib.Core.Path.{sym, _∙_, ap}

@@ -1,4 +1,4 @@
--- `print::refused_text` meets its contract.
+-- `dayline_print::refused_text` meets its contract.
 -- Assumes nothing.
 use borrow.Author.Needs.{needs}
 use Rattle.dayline_print.specs.Printed.{refusedText}

@@ -1,4 +1,4 @@
--- `print::signed` meets its contract.
+-- `dayline_print::signed` meets its contract.
 -- Assumes nothing.
 use borrow.Author.Needs.{needs}
 use mathlib.Core.Path.{_∙_, ap}

@@ -1,4 +1,4 @@
--- `print::slot` meets its contract.
+-- `dayline_print::slot` meets its contract.
 -- Assumes nothing.
 use borrow.Author.Needs.{needs}
 use mathlib.Core.Path.{sym, ap}

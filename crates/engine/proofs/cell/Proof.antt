@@ -4,16 +4,16 @@ use Rattle.rules.specs.Step.{Outcome}
 use Rattle.rules.specs.Calls.{Answer, cell, giveCell}
 use native.Mathlib.Omega.{arith}
 use mathlib.Core.Path.{_≡_, refl, sym, _∙_, ap, subst}
-use Rattle.layout.specs.Place.{nowhere, place}
-use Rattle.soundness.proofs.Locations as Locations
-use Rattle.answers.proofs.Outcomes as Outcomes
+use Rattle.store_layout.specs.Index.{nowhere, index}
+use Rattle.store_soundness.proofs.Locations as Locations
+use Rattle.engine_answers.proofs.Outcomes as Outcomes
 use borrow.Author.Needs.{needs}
 use Rattle.engine.proofs.cell.Statement.{statement}
 use Rattle.engine.proofs.cell.Tie as tie
 use Rattle.engine.proofs.cell.Reads as reads
 use Rattle.engine.proofs.cell.Lts as lts
-use Rattle.asking.proofs.cell_at.Reads as cell-at-reads
-use Rattle.soundness.proofs.find.locate.Reads as locate-reads
+use Rattle.engine_reading.proofs.give_cell.Reads as give-cell-reads
+use Rattle.store_soundness.proofs.find.locate.Reads as locate-reads
 
 locate-requires : tie.Need-locate-requires
 locate-requires c κs = tt
@@ -24,12 +24,12 @@ enum-told c = search needs
 enum-told-2 : tie.Need-enum-told-2
 enum-told-2 c = search needs
 
-enum-known-place : tie.Need-enum-known-place
-enum-known-place c = search needs
+enum-known-index : tie.Need-enum-known-index
+enum-known-index c = search needs
 
-cell-at-requires : tie.Need-cell-at-requires
-cell-at-requires c κs =
-    let h = Locations.searched (c .before .before .before .before .before .args .store .now) (c .before .before .before .before .before .args .station) (place _) (sym (c .before .before .before .locate .ensures) ∙ c .before .place .given .1) in
+give-cell-requires : tie.Need-give-cell-requires
+give-cell-requires c κs =
+    let h = Locations.searched (c .before .before .before .before .before .args .store .now) (c .before .before .before .before .before .args .station) (index _) (sym (c .before .before .before .locate .ensures) ∙ c .before .index .given .1) in
     (record { sound = h .sound-store; bytes = record { each = λ k. omega (arith, c .before .before .before .before .shared-slice-known .given k) } }, Locations.within _ _ _ (h .answer))
 
 returns : tie.Need-returns
@@ -41,8 +41,8 @@ returns-2 c = ap (λ (o : Outcome). o .answer) (sym (Outcomes.step-none _ _ _ _ 
 returns-3 : tie.Need-returns-3
 returns-3 c =
     let o = c .before .before .before .before .before .before .args in
-    c .cell-at .ensures
-    ∙ ap (λ (o : Outcome). o .answer) (sym (Outcomes.cell-step _ _ _ (Locations.searched _ _ (place _) (sym (c .before .before .before .before .locate .ensures) ∙ c .before .before .place .given .1)) (o .element) (o .slot)))
+    c .give-cell .ensures
+    ∙ ap (λ (o : Outcome). o .answer) (sym (Outcomes.cell-step _ _ _ (Locations.searched _ _ (index _) (sym (c .before .before .before .before .locate .ensures) ∙ c .before .before .index .given .1)) (o .element) (o .slot)))
 
 pub cell-spec : {M : Type 1} → statement M
 cell-spec =
@@ -51,8 +51,8 @@ cell-spec =
     locate-requires
     enum-told
     enum-told-2
-    enum-known-place
-    cell-at-requires
+    enum-known-index
+    give-cell-requires
     returns
     returns-2
     returns-3)

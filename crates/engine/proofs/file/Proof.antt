@@ -4,15 +4,15 @@ use Rattle.laws.proofs.Bools.{via}
 use borrow.Author.Tests.{not-true, not-false}
 use native.Mathlib.Omega.{arith}
 use mathlib.Core.Path.{_≡_, refl, sym, _∙_, ap, ap₂, subst}
-use Rattle.filing.proofs.Filed as Filed
-use Rattle.answers.proofs.Outcomes as Outcomes
+use Rattle.engine_filing.proofs.Filed as Filed
+use Rattle.engine_answers.proofs.Outcomes as Outcomes
 use borrow.Author.Needs.{needs}
 use Rattle.engine.proofs.file.Statement.{statement}
 use Rattle.engine.proofs.file.Tie as tie
 use Rattle.engine.proofs.file.Reads as reads
 use Rattle.engine.proofs.file.Lts as lts
 use Rattle.engine.proofs.file_in.Reads as file-in-reads
-use Rattle.soundness.proofs.sound.is_sound.Reads as is-sound-reads
+use Rattle.store_soundness.proofs.sound.is_sound.Reads as is-sound-reads
 
 is-sound-requires : tie.Need-is-sound-requires
 is-sound-requires c κs = search needs

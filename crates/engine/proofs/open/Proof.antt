@@ -1,7 +1,7 @@
 -- `engine::open` meets its contract.
 -- Assumes nothing.
 use Rattle.rules.specs.Step.{Outcome}
-use Rattle.answers.specs.Replies.{openOutcome}
+use Rattle.engine_answers.specs.Replies.{openOutcome}
 use Rattle.laws.proofs.Bools.{via, cond-true, cond-false}
 use mathlib.Core.Path.{_≡_, refl, sym, _∙_, ap, subst}
 use borrow.Author.Needs.{needs}
@@ -9,7 +9,7 @@ use Rattle.engine.proofs.open.Statement.{statement}
 use Rattle.engine.proofs.open.Tie as tie
 use Rattle.engine.proofs.open.Reads as reads
 use Rattle.engine.proofs.open.Lts as lts
-use Rattle.opening.proofs.open.open.Reads as open-reads
+use Rattle.store_opening.proofs.open.open.Reads as open-reads
 
 open-requires : tie.Need-open-requires
 open-requires c κs = tt

@@ -1,5 +1,5 @@
-//! The transcript that the program `engine_test` must print, made by the reference: the lines of standard input, one call each on one
-//! buffer, with each call's answer and with what it did to the buffer. `crates/engine_test/src/main.rt` says what the lines are.
+//! The transcript that the program `test_engine` must print, made by the reference: the lines of standard input, one call each on one
+//! buffer, with each call's answer and with what it did to the buffer. `crates/test_engine/src/main.rt` says what the lines are.
 
 use reading::reference::{self, DayLine, Mean, Refusal};
 use std::io::{self, Read};

@@ -18,18 +18,18 @@ use Rattle.daily.proofs.extremes.extreme.Statement.{statement}
 use Rattle.daily.proofs.extremes.extreme.Tie as tie
 
 abbrev Inv-loop : tie.InvT-loop
-Inv-loop t warm best₀ k₀ best k = (k ≤ 8) × Leads warm (cells t) best k
+Inv-loop t warmer best₀ k₀ best k = (k ≤ 8) × Leads warmer (cells t) best k
 
 abbrev μ-loop : tie.MeasureT-loop
-μ-loop t warm best₀ k₀ best k = 8 - k
+μ-loop t warmer best₀ k₀ best k = 8 - k
 
 -- the best slot after the loop, b saying whether it is missing
 told : (x : tie.After-at Inv-loop μ-loop) (b : Bool) → eqb (x .at .result .state) 0 ≡ b
-    → cond b Absent (Slot (x .before .before .loop .best)) ≡ slotOf (earliest (utmost (beyond (x .before .before .before .args .warm)) (cells (x .before .before .before .args .t))) 8)
+    → cond b Absent (Slot (x .before .before .loop .best)) ≡ slotOf (earliest (utmost (beyond (x .before .before .before .args .warmer)) (cells (x .before .before .before .args .t))) 8)
 told x b h =
     let l = x .before .before in
     let e : l .loop .k ≡ 8 = omega arith in
-    ended (l .before .args .warm) (cells (l .before .args .t)) (l .loop .best) (rw e at (l .loop .inv .1)) b (sym (ap missing (x .at .ensures)) ∙ h)
+    ended (l .before .args .warmer) (cells (l .before .args .t)) (l .loop .best) (rw e at (l .loop .inv .1)) b (sym (ap missing (x .at .ensures)) ∙ h)
 
 pub extreme-spec : {M : Type 1} → statement M
 extreme-spec =

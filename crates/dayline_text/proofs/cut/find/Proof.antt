@@ -1,4 +1,4 @@
--- `cut::find` meets its contract. The invariant: the byte is not among the first i.
+-- `dayline_text::cut::find` meets its contract. The invariant: the byte is not among the first i.
 -- Assumes nothing.
 use borrow.Author.Needs.{needs}
 use Prim.Native.Nat.{_-_}

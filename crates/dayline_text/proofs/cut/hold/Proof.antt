@@ -1,4 +1,4 @@
--- `cut::hold` meets its contract. The invariant: the first i bytes of s are put behind what was held.
+-- `dayline_text::cut::hold` meets its contract. The invariant: the first i bytes of s are put behind what was held.
 -- Assumes nothing.
 use borrow.Author.Needs.{needs}
 use Prim.Native.Nat.{_-_}

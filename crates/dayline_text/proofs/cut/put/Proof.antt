@@ -1,4 +1,4 @@
--- `cut::put` meets its contract.
+-- `dayline_text::cut::put` meets its contract.
 -- Assumes nothing.
 use borrow.Author.Needs.{needs}
 use Rattle.dayline_text.proofs.Keeping.{kept-more, kept-full}

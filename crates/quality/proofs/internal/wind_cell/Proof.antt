@@ -16,7 +16,7 @@ returns c = took _ _ _ (eq-eqb _ _ (c .if1 .taken))
 returns-2 : tie.Need-returns-2
 unfolding windCell
 returns-2 c =
-    rw (c .mark .ensures)
+    rw (c .with-flag .ensures)
     (skip _ _ _ _ (ne-eqb _ _ (c .before .before .before .before .if1 .left))
     (took _ _ _ (via (or-eq (and-eq {r = eqb (c .before .before .before .before .before .before .args .dd) 0} refl (c .before .before .before .below .ensures)) (and-eq {r = leb 1 (c .before .before .before .before .before .before .args .dd) && leb (c .before .before .before .before .before .before .args .dd) 36} refl (c .before .before .is-zero .ensures))) (c .before .if2 .taken))))
 

@@ -22,7 +22,7 @@ returns-3 : tie.Need-returns-3
 unfolding rangeCell
 returns-3 c =
     let o = c .before .before .before .before in
-    rw (c .mark .ensures)
+    rw (c .with-flag .ensures)
     (skip _ _ _ _ (ne-eqb _ _ (o .before .before .before .if1 .left))
     (skip _ _ _ _ (via (or-eq (o .before .before .below .ensures) (o .before .below2 .ensures)) (o .if2 .left))
     (took _ _ _ (via (or-eq (c .before .before .before .below3 .ensures) (c .before .before .below4 .ensures)) (c .before .if3 .taken)))))

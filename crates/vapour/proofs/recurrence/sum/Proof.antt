@@ -4,19 +4,19 @@ use mathlib.Core.Path.{_≡_, refl}
 use Prim.Native.Nat.{_+_, _*_, _/_, _-_, _≤_}
 use native.Mathlib.Omega.{arith}
 use borrow.Author.Needs.{needs}
-use Rattle.vapour.specs.Vapour.{S, term, total}
-use Rattle.vapour.proofs.Terms.{term-next, total-next, term-most, product-most, total-least, total-most}
+use Rattle.vapour.specs.Vapour.{S, term, sumTo}
+use Rattle.vapour.proofs.Terms.{term-next, sumTo-next, term-most, product-most, sumTo-least, sumTo-most}
 use Rattle.vapour.proofs.recurrence.sum.Statement.{statement}
 use Rattle.vapour.proofs.recurrence.sum.Tie as tie
 
 abbrev Inv-loop : tie.InvT-loop
-Inv-loop q t₀ z₀ k₀ t z k = (k ≤ 30) × (t ≡ term q k) × (z ≡ total (term q) k)
+Inv-loop q t₀ z₀ k₀ t z k = (k ≤ 30) × (t ≡ term q k) × (z ≡ sumTo (term q) k)
 
 abbrev μ-loop : tie.MeasureT-loop
 μ-loop q t₀ z₀ k₀ t z k = 30 - k
 
 loop-holds : tie.Need-loop-holds Inv-loop μ-loop
-unfolding term total
+unfolding term sumTo
 loop-holds c = (search needs, refl, refl)
 
 mul-term : tie.Need-mul-term Inv-loop μ-loop
@@ -36,21 +36,21 @@ add-z c =
     (omega (
       arith,
       term-most (c .before .before .args .q) (c .before .before .pre) (c .before .loop .k + 1),
-      total-most (c .before .before .args .q) (c .before .before .pre) (c .before .loop .k),
+      sumTo-most (c .before .before .args .q) (c .before .before .pre) (c .before .loop .k),
     ))
 
 loop-again : tie.Need-loop-again Inv-loop μ-loop
 loop-again c = (
   search needs,
   next c,
-  total-next (term (c .before .before .args .q)) (c .before .loop .k) (c .before .loop .z) _ (c .before .loop .inv .2) (next c),
+  sumTo-next (term (c .before .before .args .q)) (c .before .loop .k) (c .before .loop .z) _ (c .before .loop .inv .2) (next c),
 )
 
 returns : tie.Need-returns Inv-loop μ-loop
 returns c =
     let k : c .before .loop .k ≡ 30 = omega arith in
-    let z : c .before .loop .z ≡ total (term (c .before .before .args .q)) 30 = rw k at (c .before .loop .inv .2) in
-    (z, rw z (total-least (c .before .before .args .q) 30), rw z (total-most (c .before .before .args .q) (c .before .before .pre) 30))
+    let z : c .before .loop .z ≡ sumTo (term (c .before .before .args .q)) 30 = rw k at (c .before .loop .inv .2) in
+    (z, rw z (sumTo-least (c .before .before .args .q) 30), rw z (sumTo-most (c .before .before .args .q) (c .before .before .pre) 30))
 
 pub sum-spec : {M : Type 1} → statement M
 sum-spec =

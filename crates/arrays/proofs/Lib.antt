@@ -1,3 +1,0 @@
--- Laws that the proofs of the arrays cite.
-pub mod Signed
-pub mod Bounds

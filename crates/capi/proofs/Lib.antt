@@ -1,3 +1,0 @@
--- Laws that the calls' proofs cite.
-pub mod Bounds
-pub mod Days

@@ -1,0 +1,3 @@
+-- Laws that the proofs of the arrays cite.
+pub mod Signed
+pub mod Within

@@ -1,0 +1,27 @@
+// What the calls answer: accepted or what was asked for, or refused with the paper's number.
+use daily::DayLine;
+
+// Of open, file and settle.
+pub enum Reply {
+    Accepted,
+    Refused(u32),
+}
+
+// A checked cell.
+pub struct Cell {
+    pub state: u8,
+    pub flag: u8,
+    pub value: i32,
+}
+
+// Of cell.
+pub enum CellReply {
+    Cell(Cell),
+    Refused(u32),
+}
+
+// Of day.
+pub enum DayReply {
+    Line(DayLine),
+    Refused(u32),
+}

@@ -1,0 +1,157 @@
+// Filing a report in one station's slot.
+ghost use mathlib.Core.Path.{_≡_};
+ghost use mathlib.Core.List.{map};
+ghost use Prim.Native.Nat.{ℕ, _<_};
+ghost use Rattle.calendar.specs.Slots.{slotOf};
+ghost use lib.ListN.{length};
+ghost use Rattle.store_layout.specs.Model.{stationAt};
+ghost use Rattle.store_layout.specs.Layout.{blockLength, countAt, word, decodeBlock, decode};
+ghost use Rattle.store_layout.specs.Updates.{withSlot};
+ghost use Rattle.synop_codes.specs.Value as codes;
+ghost use Rattle.quality.specs.Coded.{cell};
+ghost use Rattle.synop_contents.specs.Contents.{listed};
+ghost use Rattle.rules.specs.Calls.{named, takeNil, take};
+ghost use Rattle.engine_answers.specs.Good.{Good};
+ghost use Rattle.engine_answers.specs.Replies.{reply, Did};
+ghost use Rattle.rules.specs.Rules.{keeps, rawCell, filedHead, fileAt, nilIn, fileIn};
+ghost use Rattle.rules.specs.Step.{after, asked};
+use calendar::Slot;
+use engine_answers::Reply;
+use quality::column::OffsetCell;
+use quality::head::SlotHead;
+use store_soundness::find::Located;
+use synop_codes::Value;
+use synop_contents::Identification;
+use synop_contents::Indicators;
+use synop_contents::Values;
+
+// A report's value as a raw cell.
+fn raw_cell(v: Value) -> OffsetCell
+    ensures { λ r. ⌜ cell r ≡ rawCell (codes.meaning v) ⌝ }
+{
+    match v {
+        Value::Missing => OffsetCell {
+            state: 0,
+            flag: 0,
+            value: 32768,
+        },
+        Value::Read(x) => OffsetCell {
+            state: 1,
+            flag: 0,
+            value: x,
+        },
+    }
+}
+
+// The nine raw cells of a report, in the elements' order.
+fn raw_cells(v: Values) -> [OffsetCell; 9]
+    ensures { λ r. ⌜ map cell r ≡ map rawCell (listed v) ⌝ }
+{
+    let temperature = v.temperature;
+    let dew_point = v.dew_point;
+    let pressure = v.pressure;
+    let wind = v.wind;
+    let cloud = v.cloud;
+    let visibility = v.visibility;
+    let rain = v.rain;
+    let maximum = v.maximum;
+    let minimum = v.minimum;
+    [
+        raw_cell(temperature),
+        raw_cell(dew_point),
+        raw_cell(pressure),
+        raw_cell(wind),
+        raw_cell(cloud),
+        raw_cell(visibility),
+        raw_cell(rain),
+        raw_cell(maximum),
+        raw_cell(minimum),
+    ]
+}
+
+// A slot's head and raw cells replaced.
+fn put_report(block: &mut [u8], k: usize, head: Indicators, values: Values)
+    requires { ⌜ (length (now block) ≡ blockLength) × (k < 9) ⌝ }
+    ensures { λ _. ⌜ decodeBlock (now (block .exit)) ≡ withSlot k (filedHead head) (map rawCell (listed values)) (decodeBlock (now (block .entry))) ⌝ }
+{
+    let h = SlotHead {
+        filed: 1,
+        ir: head.rain_indicator,
+        tr: head.rain_duration,
+        dd: head.wind_direction,
+    };
+    store_block::block::put_slot(block, k, h, raw_cells(values));
+}
+
+// A report filed in slot k of the station at an index, unless the slot is filed already.
+fn file_at(store: &mut [u8], index: usize, k: usize, head: Indicators, values: Values) -> Reply
+    requires { ⌜ Good (now store) × (index < word (now store) countAt) × (k < 9) ⌝ }
+    ensures { λ r. ⌜ Did (after (fileAt k head (listed values) (stationAt (decode (now (store .entry)) .stations) index)) index (decode (now (store .entry))) (now (store .entry))) (reply r) (now (store .exit)) ⌝ }
+{
+    let a = store_entries::block_at(store, index);
+    let b = a + 684;
+    if store_block::block::is_filed(&store[a..b], k) {
+        return Reply::Refused(8);
+    }
+    put_report(&mut store[a..b], k, head, values);
+    store_entries::set_settled(store, index, false);
+    Reply::Accepted
+}
+
+// The slot that a heading names on the store's day.
+fn slot_in(store: &[u8], h: Identification) -> Slot
+    requires { ⌜ Good (now store) ⌝ }
+    ensures { λ r. ⌜ r ≡ slotOf (decode (now (store .entry)) .year) (decode (now (store .entry)) .month) (decode (now (store .entry)) .day) (h .day) (h .hour) ⌝ }
+{
+    let d = store_entries::date_of(store);
+    calendar::slot_of(d.year, d.month, d.day, h.day as u32, h.hour as u32)
+}
+
+// A `NIL` is accepted for any slot.
+fn nil_in(slot: Slot) -> Reply
+    ensures { λ r. ⌜ keeps (reply r) ≡ nilIn slot ⌝ }
+{
+    match slot {
+        Slot::At(_) => Reply::Accepted,
+        Slot::Nothing => Reply::Refused(7),
+    }
+}
+
+// A `NIL` of a station: it changes nothing.
+pub fn file_nil(store: &[u8], h: Identification) -> Reply
+    requires { ⌜ Good (now store) ⌝ }
+    ensures { λ r. ⌜ Did (asked (named (h .station) (takeNil (h .day) (h .hour))) (decode (now (store .entry))) (now (store .entry))) (reply r) (now (store .entry)) ⌝ }
+{
+    match store_soundness::find::find(store, h.station) {
+        Located::Unsound => Reply::Refused(6),
+        Located::Absent => Reply::Refused(6),
+        Located::At(_) => nil_in(slot_in(store, h)),
+    }
+}
+
+// A report for a slot of the station at an index.
+fn file_there(store: &mut [u8], index: usize, slot: Slot, head: Indicators, values: Values) -> Reply
+    requires { ⌜ Good (now store) × (index < word (now store) countAt) ⌝ }
+    requires { ⌜ ((k : ℕ) → slot ≡ Slot.At k → k < 9) ⌝ }
+    ensures { λ r. ⌜ Did (after (fileIn slot head (listed values) (stationAt (decode (now (store .entry)) .stations) index)) index (decode (now (store .entry))) (now (store .entry))) (reply r) (now (store .exit)) ⌝ }
+{
+    match slot {
+        Slot::At(k) => file_at(store, index, k, head, values),
+        Slot::Nothing => Reply::Refused(7),
+    }
+}
+
+// A whole report.
+pub fn file_whole(store: &mut [u8], h: Identification, head: Indicators, values: Values) -> Reply
+    requires { ⌜ Good (now store) ⌝ }
+    ensures { λ r. ⌜ Did (asked (named (h .station) (take (h .day) (h .hour) head (listed values))) (decode (now (store .entry))) (now (store .entry))) (reply r) (now (store .exit)) ⌝ }
+{
+    match store_soundness::find::find(store, h.station) {
+        Located::Unsound => Reply::Refused(6),
+        Located::Absent => Reply::Refused(6),
+        Located::At(index) => {
+            let slot = slot_in(store, h);
+            file_there(store, index, slot, head, values)
+        }
+    }
+}

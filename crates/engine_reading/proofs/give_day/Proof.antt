@@ -1,0 +1,101 @@
+-- `engine_reading::give_day` meets its contract.
+-- Assumes nothing.
+use Rattle.engine_answers.specs.declared.DayReply.the-variants as reply
+use Rattle.engine_answers.specs.Replies.{SaysDay}
+use Rattle.rules.specs.Rules.{dayOf}
+use Rattle.rules.specs.Calls.{Answer}
+use Rattle.store_block.specs.Coded.{durationsOf}
+use Rattle.daily.specs.Line.{dayLine}
+use Rattle.daily.specs.Line as Line
+use Rattle.daily.specs.Coded.{Says}
+use Rattle.store_layout.specs.Model.{Block}
+use Prim.Native.Nat.{_+_}
+use Rattle.laws.proofs.Bools.{via, and-left, and-right, cond-true, cond-false}
+use borrow.Author.Tests.{not-true, not-false, leb-true}
+use native.Mathlib.Omega.{arith}
+use mathlib.Core.Path.{_≡_, refl, sym, _∙_, ap, ap₂, subst}
+use Rattle.engine_answers.proofs.Stores as Stores
+use borrow.Author.Needs.{needs}
+use Rattle.engine_reading.proofs.give_day.Statement.{statement}
+use Rattle.engine_reading.proofs.give_day.Tie as tie
+use Rattle.engine_reading.proofs.give_day.Reads as reads
+use Rattle.engine_reading.proofs.give_day.Lts as lts
+use Rattle.daily_line.proofs.day_line.Reads as day-line-reads
+use Rattle.store_block.proofs.block.durations.Reads as durations-reads
+use Rattle.store_block.proofs.block.sheet_of.Reads as sheet-of-reads
+use Rattle.store_entries.proofs.block_at.Reads as block-at-reads
+use Rattle.store_entries.proofs.is_settled.Reads as is-settled-reads
+
+is-settled-requires : tie.Need-is-settled-requires
+is-settled-requires c κs = (Stores.framed (c .before .args .store .now) (c .before .pre .0), c .before .pre .1)
+
+returns : tie.Need-returns
+unfolding dayOf
+returns c = subst (SaysDay (reply.Refused 11)) (sym (cond-false _ _ _ (via (c .before .is-settled .ensures) (not-true _ (c .if1 .taken))))) refl
+
+block-at-requires : tie.Need-block-at-requires
+block-at-requires c κs = (Stores.framed (c .before .before .before .args .store .now) (c .before .before .before .pre .0), c .before .before .before .pre .1)
+
+add-b : tie.Need-add-b
+add-b c = search needs
+
+sub-sheet-of : tie.Need-sub-sheet-of
+sub-sheet-of c = search needs
+
+part-sheet-of-start : tie.Need-part-sheet-of-start
+part-sheet-of-start c = search needs
+
+part-sheet-of-end : tie.Need-part-sheet-of-end
+part-sheet-of-end c = search needs
+
+sheet-of-requires : tie.Need-sheet-of-requires
+sheet-of-requires c κs = search needs
+
+sub-durations : tie.Need-sub-durations
+sub-durations c = search needs
+
+part-durations-start : tie.Need-part-durations-start
+part-durations-start c = search needs
+
+part-durations-end : tie.Need-part-durations-end
+part-durations-end c = search needs
+
+durations-requires : tie.Need-durations-requires
+durations-requires c κs = search needs
+
+day-line-requires : tie.Need-day-line-requires
+day-line-requires c κs = search needs
+
+returns-2 : tie.Need-returns-2
+unfolding dayOf
+returns-2 c =
+    let o = c .before .before .before .before .before .before .before .before .before in
+    let s = o .args .store .now in
+    let g = o .pre .0 in
+    let l = o .pre .1 in
+    let i = o .args .index in
+    let a = c .before .before .before .before .before .block-at .result in
+    let p = c .before .before .before .before .before .block-at .ensures .0 in
+    let e = Stores.part-block s g i l a (a + 684) p refl in
+    subst (SaysDay (reply.Line (c .day-line .result))) (sym (cond-true _ _ _ (via (c .before .before .before .before .before .before .before .is-settled .ensures) (not-false _ (c .before .before .before .before .before .before .if1 .left)))))
+    (subst (Says (c .day-line .result))
+    (ap₂ dayLine (c .before .durations .ensures ∙ ap durationsOf e) (c .before .before .before .sheet-of .ensures ∙ ap (λ (x : Block). x .checked) e)) (c .day-line .ensures))
+
+pub give-day-spec : {M : Type 1} → statement M
+give-day-spec =
+    tie.close
+    (tie.spec
+    is-settled-requires
+    returns
+    block-at-requires
+    add-b
+    sub-sheet-of
+    part-sheet-of-start
+    part-sheet-of-end
+    sheet-of-requires
+    sub-durations
+    part-durations-start
+    part-durations-end
+    durations-requires
+    day-line-requires
+    returns-2)

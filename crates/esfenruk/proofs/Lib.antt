@@ -1,0 +1,3 @@
+-- Laws that the calls' proofs cite.
+pub mod Within
+pub mod Days

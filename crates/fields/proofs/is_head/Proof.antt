@@ -1,8 +1,0 @@
--- `fields::is_head` meets its contract: each test that fails ends it.
--- Assumes nothing.
-use Rattle.laws.proofs.Rules.{tests}
-use Rattle.fields.proofs.is_head.Statement.{statement}
-use Rattle.fields.proofs.is_head.Tie as tie
-
-pub is-head-spec : {M : Type 1} → statement M
-is-head-spec = tie.close (tie.spec (λ c. search tests) (λ c. search tests) (λ c. search tests) (λ c. search tests))

@@ -1,8 +1,0 @@
--- `layout::word` meets its contract.
--- Assumes nothing.
-use borrow.Author.Needs.{needs}
-use Rattle.layout.proofs.word.Statement.{statement}
-use Rattle.layout.proofs.word.Tie as tie
-
-pub word-spec : {M : Type 1} → statement M
-word-spec = tie.close (tie.spec (λ c. search needs) (λ c. search needs) (λ c. search needs))

@@ -1,0 +1,48 @@
+-- `quality_columns::dew_column` meets its contract.
+-- Assumes nothing.
+use mathlib.Core.Path.{_∙_, ap₂}
+use Prim.Native.Nat.{_-_}
+use borrow.Author.Needs.{needs}
+use Rattle.laws.proofs.Fill.{Done}
+use Rattle.laws.proofs.Fill as Fill
+use Rattle.quality.specs.Steps.{dewCell, dewColumn}
+use Rattle.quality.specs.Coded.{cells}
+use Rattle.quality.specs.Cell.{slot, none}
+use Rattle.quality.proofs.Columns.{length-cells}
+use Rattle.quality_columns.proofs.dew_column.Statement.{statement}
+use Rattle.quality_columns.proofs.dew_column.Tie as tie
+
+abbrev Inv-loop : tie.InvT-loop
+Inv-loop t d r₀ k₀ r k = Done (λ j. dewCell (slot (cells t) j) (slot (cells d) j)) none 9 (cells r) k
+
+abbrev μ-loop : tie.MeasureT-loop
+μ-loop t d r₀ k₀ r k = 9 - k
+
+loop-holds : tie.Need-loop-holds Inv-loop μ-loop
+loop-holds c = Fill.none _ _ _ _ (length-cells _)
+
+loop-again : tie.Need-loop-again Inv-loop μ-loop
+loop-again c =
+    let l = c .before .before .before .before .before in
+    rw (c .put .ensures)
+    (Fill.more _ (l .loop .inv) (search needs) (c .before .dew-cell .ensures ∙ ap₂ dewCell (c .before .before .before .at .ensures) (c .before .before .at2 .ensures)))
+
+returns : tie.Need-returns Inv-loop μ-loop
+unfolding dewColumn
+returns c = Fill.whole (c .before .loop .inv) (search needs)
+
+pub dew-column-spec : {M : Type 1} → statement M
+dew-column-spec =
+    tie.close
+    (tie.spec
+    Inv-loop
+    μ-loop
+    loop-holds
+    (λ c κs. search needs)
+    (λ c κs. search needs)
+    (λ c κs. tt)
+    (λ c κs. search needs)
+    (λ c. search needs)
+    (λ c. search needs)
+    loop-again
+    returns)

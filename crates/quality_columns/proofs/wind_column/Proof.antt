@@ -1,0 +1,49 @@
+-- `quality_columns::wind_column` meets its contract.
+-- Assumes nothing.
+use mathlib.Core.Path.{_∙_, ap}
+use Prim.Native.Nat.{_-_}
+use borrow.Author.Needs.{needs}
+use lib.ListN.{getD}
+use Rattle.laws.proofs.Fill.{Done}
+use Rattle.laws.proofs.Fill as Fill
+use Rattle.quality.specs.Steps.{windCell, windColumn}
+use Rattle.quality.specs.Coded.{cells}
+use Rattle.quality.specs.Cell.{slot, none}
+use Rattle.quality.proofs.Columns.{length-cells}
+use Rattle.quality_columns.proofs.wind_column.Statement.{statement}
+use Rattle.quality_columns.proofs.wind_column.Tie as tie
+
+abbrev Inv-loop : tie.InvT-loop
+Inv-loop w dd r₀ k₀ r k = Done (λ j. windCell (getD dd j 0) (slot (cells w) j)) none 9 (cells r) k
+
+abbrev μ-loop : tie.MeasureT-loop
+μ-loop w dd r₀ k₀ r k = 9 - k
+
+loop-holds : tie.Need-loop-holds Inv-loop μ-loop
+loop-holds c = Fill.none _ _ _ _ (length-cells _)
+
+loop-again : tie.Need-loop-again Inv-loop μ-loop
+loop-again c =
+    let l = c .before .before .before .before in
+    rw (c .put .ensures)
+    (Fill.more _ (l .loop .inv) (search needs) (c .before .wind-cell .ensures ∙ ap (windCell _) (c .before .before .at .ensures)))
+
+returns : tie.Need-returns Inv-loop μ-loop
+unfolding windColumn
+returns c = Fill.whole (c .before .loop .inv) (search needs)
+
+pub wind-column-spec : {M : Type 1} → statement M
+wind-column-spec =
+    tie.close
+    (tie.spec
+    Inv-loop
+    μ-loop
+    loop-holds
+    (λ c. search needs)
+    (λ c κs. search needs)
+    (λ c κs. tt)
+    (λ c κs. search needs)
+    (λ c. search needs)
+    (λ c. search needs)
+    loop-again
+    returns)

@@ -1,0 +1,148 @@
+-- The law that demand 3 asks of the rules, request by request: what a request makes of a valid station has the same number and is valid again.
+--     lawful-nil, lawful-settling, lawful-cell, lawful-day      of themselves
+--     lawful-take      a report filed, where the report fits
+--     all-lawful       all that a call can ask, where every report that passes fits
+-- Assumes nothing.
+use mathlib.Core.Path.{_≡_, refl, sym, subst}
+use mathlib.Core.Bool.{Bool, true, false, cond}
+use mathlib.Core.List.{List, map}
+use Prim.Native.Nat.{ℕ, _≤_, _<_}
+use native.Mathlib.Omega.{arith}
+use lib.Dec.{eqb, lit≤}
+use lib.ListN.{getD, List·getD-map}
+use Rattle.calendar.specs.Slots.{slotOf}
+use Rattle.calendar.specs.declared.Slot.{Slot}
+use Rattle.calendar.specs.declared.Slot.the-variants.{At, Nothing}
+use Rattle.synop_codes.specs.Value.{Value, missing, read, Within}
+use Rattle.store_layout.specs.Model.{Block, Station, headOf}
+use Rattle.store_layout.specs.Valid.{RawCell, ValidBlock, ValidStation, isDirection}
+use Rattle.store_layout.specs.Updates.{withBlock}
+use Rattle.store_layout.proofs.Validity.{valid-with-slot, valid-with-checked, valid-with-block}
+use Rattle.quality.specs.Cell.{none}
+use Rattle.quality.specs.Limits.{warm}
+use Rattle.quality.specs.Valid.{ValidCell}
+use Rattle.quality.proofs.Validity.{settled-keeps}
+use Rattle.synop.specs.Report.{Report, report}
+use Rattle.synop_contents.specs.declared.Indicators.{Indicators}
+use Rattle.synop_contents.specs.declared.Identification.{Identification}
+use Rattle.rules.specs.Calls.{Call, file, settle, cell, day, Answer, refused, Request, takeNil, take, settling, giveCell, giveDay, Ask, unnamed, named, ask, askFile}
+use Rattle.rules.specs.Rules.{Date, keeps, makes, rawCell, filedHead, filed, fileAt, nilIn, fileIn, directions, settledStation, rule}
+use Rattle.rules.proofs.Kept.{Kept, Lawful, AllLawful}
+
+-- ---- requests that keep the station
+never : {a : Answer} {u : Station} → keeps a ≡ makes u → ⊥
+never e = let z : _≡_ {A = ℕ} 0 1 = cc in omega arith
+
+pub lawful-nil : (yy gg : ℕ) → Lawful (takeNil yy gg)
+unfolding rule
+lawful-nil yy gg d t u v e = go (slotOf (d .year) (d .month) (d .day) yy gg) e
+  where
+    go : (k : Slot) → nilIn k ≡ makes u → Kept t u
+    go Nothing q = absurd (never q)
+    go (At k) q = absurd (never q)
+
+pub lawful-cell : (e k : ℕ) → Lawful (giveCell e k)
+unfolding rule
+lawful-cell e k d t u v q = absurd (never q)
+
+pub lawful-day : Lawful giveDay
+unfolding rule
+lawful-day d t u v q = absurd (never q)
+
+-- ---- requests that make a new block and mark
+pub kept-block : (b : Block) (mark : ℕ) (t : Station) → ValidStation t → ValidBlock b → mark ≤ 1 → Kept t (withBlock b mark t)
+unfolding withBlock
+kept-block b mark t v w l = record { number = refl; valid = valid-with-block b mark t v w l }
+
+pub kept-settled : (d : Date) (t : Station) → ValidStation t → Kept t (settledStation d t)
+unfolding settledStation
+kept-settled d t v =
+    kept-block _ 1 t v
+    (valid-with-checked _ (t .block) (v .block)
+    (settled-keeps (t .row) (warm (d .month)) (directions (t .block)) (t .block .raw) (v .block .raw)))
+    (lit≤ tt)
+
+pub lawful-settling : Lawful settling
+unfolding rule
+lawful-settling d t u v q = let e : settledStation d t ≡ u = cc in subst (Kept t) e (kept-settled d t v)
+
+-- ---- a report filed
+-- what a report holds can stand in a store: "iR 0 to 4, else 5; tR 0 to 9; dd 0 to 36 or 99, else 100", and each value in a cell
+pub record Fits (head : Indicators) (values : List Value) : Type 0 where
+  pub indicator : head .«rain_indicator» ≤ 5
+  pub duration : head .«rain_duration» ≤ 9
+  pub direction : isDirection (head .«wind_direction») ≡ true
+  pub value : (e : ℕ) → e < 9 → Within (getD values e missing)
+
+-- each report that passes the checks fits
+pub record ReportBounds : Type 0 where
+  pub fits : (text : List ℕ) (h : Identification) (head : Indicators) (values : List Value) → report text ≡ Report.whole h head values → Fits head values
+
+-- a value as a raw cell
+valid-raw : (v : Value) → Within v → ValidCell (rawCell v)
+valid-raw missing w = record { state = lit≤ tt; flag = lit≤ tt; size = lit≤ tt; empty = λ e. refl }
+valid-raw (read z) w = record { state = lit≤ tt; flag = lit≤ tt; size = w; empty = λ e. absurd (omega arith) }
+
+raw-raw : (v : Value) → RawCell (rawCell v)
+raw-raw missing = record { state = lit≤ tt; flag = refl }
+raw-raw (read z) = record { state = lit≤ tt; flag = refl }
+
+raw-at : (values : List Value) (e : ℕ) → getD (map rawCell values) e none ≡ rawCell (getD values e missing)
+raw-at values e = List·getD-map rawCell values e missing
+
+module _ (head : Indicators) (values : List Value) (f : Fits head values) where
+  kept-filed : (k : ℕ) (t : Station) → ValidStation t → Kept t (filed k head values t)
+  unfolding filed
+  kept-filed k t v =
+      kept-block _ 0 t v
+      (valid-with-slot k (filedHead head) (map rawCell values) (t .block) (v .block)
+      (record { filed = lit≤ tt; ir = f .indicator; tr = f .duration; dd = f .direction })
+      (λ e l. subst ValidCell (sym (raw-at values e)) (valid-raw (getD values e missing) (f .value e l)))
+      (λ e l. subst RawCell (sym (raw-at values e)) (raw-raw (getD values e missing))))
+      (lit≤ tt)
+
+  pub lawful-take : (yy gg : ℕ) → Lawful (take yy gg head values)
+  unfolding rule fileAt
+  lawful-take yy gg d t u v e = at (slotOf (d .year) (d .month) (d .day) yy gg) e
+    where
+      free : (k : ℕ) (b : Bool) → cond b (keeps (refused 8)) (makes (filed k head values t)) ≡ makes u → Kept t u
+      free k true q = absurd (never q)
+      free k false q = let r : filed k head values t ≡ u = cc in subst (Kept t) r (kept-filed k t v)
+
+      at : (k : Slot) → fileIn k head values t ≡ makes u → Kept t u
+      at Nothing q = absurd (never q)
+      at (At k) q = free k (eqb (headOf (t .block) k .filed) 1) q
+
+-- ---- all that a call can ask
+-- a report that a call asks to take fits
+abbrev DeedFits : Request → Type 0
+DeedFits (takeNil yy gg) = Unit {0}
+DeedFits (take yy gg head values) = Fits head values
+DeedFits settling = Unit {0}
+DeedFits (giveCell e k) = Unit {0}
+DeedFits giveDay = Unit {0}
+
+abbrev AskFits : Ask → Type 0
+AskFits (unnamed n) = Unit {0}
+AskFits (named y request) = DeedFits request
+
+ask-fits : ReportBounds → (c : Call) → AskFits (ask c)
+ask-fits bounds (file text) = go (report text) refl
+  where
+    go : (r : Report) → report text ≡ r → AskFits (askFile r)
+    go (Report.refused n) e = tt
+    go (Report.nil h) e = tt
+    go (Report.whole h head values) e = bounds .fits text h head values e
+ask-fits bounds (settle s) = tt
+ask-fits bounds (cell s e k) = tt
+ask-fits bounds (day s) = tt
+
+lawful : (request : Request) → DeedFits request → Lawful request
+lawful (takeNil yy gg) f = lawful-nil yy gg
+lawful (take yy gg head values) f = lawful-take head values f yy gg
+lawful settling f = lawful-settling
+lawful (giveCell e k) f = lawful-cell e k
+lawful giveDay f = lawful-day
+
+pub all-lawful : ReportBounds → AllLawful
+all-lawful bounds = record { asked = λ c x request e. lawful request (subst AskFits e (ask-fits bounds c)) }

@@ -1,0 +1,29 @@
+-- A test of 81 places, nine by nine.
+-- Assumes nothing.
+use mathlib.Core.Path.{_≡_, sym, _∙_, ap}
+use mathlib.Core.Bool.{Bool, _&&_, and-assoc, and-true}
+use Prim.Native.Nat.{ℕ, zero, suc, _+_, _*_}
+use native.Mathlib.Omega.{arith}
+use Rattle.laws.specs.All.{all}
+use Rattle.store_layout.specs.Layout.{cellLength}
+
+module _ (f : ℕ → Bool) where
+  -- the first a, and then b more
+  all-on : (a b : ℕ) → all f (a + b) ≡ (all f a && all (λ e. f (a + e)) b)
+  all-on a zero = let z : a + 0 ≡ a = omega arith in ap (all f) z ∙ sym (and-true (all f a))
+  all-on a (suc b) =
+      let z : a + suc b ≡ suc (a + b) = omega arith in
+      ap (all f) z ∙ ap (λ (r : Bool). r && f (a + b)) (all-on a b) ∙ and-assoc (all f a) (all (λ e. f (a + e)) b) (f (a + b))
+
+  pub nines : (n : ℕ) → all (λ k. all (λ e. f (9 * k + e)) 9) n ≡ all f (9 * n)
+  nines zero = let z : 0 ≡ 9 * 0 = omega arith in ap (all f) z
+  nines (suc n) =
+      let z : 9 * n + 9 ≡ 9 * suc n = omega arith in
+      ap (λ (r : Bool). r && all (λ e. f (9 * n + e)) 9) (nines n) ∙ sym (all-on (9 * n) 9) ∙ ap (all f) z
+
+-- of a test of what stands at an index
+pub slot-by-slot : (p : ℕ → Bool) (at : ℕ) → all (λ k. all (λ e. p ((at + 36 * k) + cellLength * e)) 9) 9 ≡ all (λ j. p (at + cellLength * j)) 81
+slot-by-slot p at = (λ i. all (λ k. all (λ e. p (same k e i)) 9) 9) ∙ nines (λ j. p (at + cellLength * j)) 9
+  where
+    same : (k e : ℕ) → (at + 36 * k) + cellLength * e ≡ at + cellLength * (9 * k + e)
+    same k e = omega arith

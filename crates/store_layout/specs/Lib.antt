@@ -1,0 +1,9 @@
+-- Document 01, "The store": the model, which models are stores, the byte layout, soundness, opening, and where a station lies.
+pub mod Model
+pub mod Valid
+pub mod Layout
+pub mod Framed
+pub mod Sound
+pub mod Opening
+pub mod Index
+pub mod Updates

@@ -1,0 +1,31 @@
+-- Opening a store: what is refused 10, and what an accepted open leaves.
+-- Assumes nothing.
+use mathlib.Core.Bool.{Bool, _&&_}
+use mathlib.Core.List.{List}
+use Prim.Native.Nat.{ℕ, suc, _-_}
+use lib.Dec.{leb, ltb, eqb}
+use lib.ListN.{length, getD}
+use Rattle.laws.specs.All.{all}
+use Rattle.laws.specs.Table.{table}
+use Rattle.calendar.specs.Dates.{isDate}
+use Rattle.store_layout.specs.Model.{Store, emptyBlock}
+use Rattle.store_layout.specs.Layout.{storeLength}
+
+-- "n not 1 to 32, wrong length, bad date, row not 0 or 1, numbers not strictly ascending in 1 to 99999" is refused 10; so are lists of
+-- numbers and rows of different lengths. `size` is the buffer's length
+unfoldable pub openable : ℕ → ℕ → ℕ → ℕ → List ℕ → List ℕ → Bool
+openable size year month day numbers rows =
+    leb 1 (length numbers) && leb (length numbers) 32 && eqb (length rows) (length numbers) && eqb size (storeLength (length numbers))
+    && isDate year month day
+    && all (λ i. leb 1 (getD numbers i 0) && leb (getD numbers i 0) 99999 && leb (getD rows i 0) 1) (length numbers)
+    && all (λ i. ltb (getD numbers i 0) (getD numbers (suc i) 0)) (length numbers - 1)
+
+-- "all slots unfiled, with iR 5, tR 0, dd 100, cells missing with flag 0, unsettled"
+unfoldable pub fresh : ℕ → ℕ → ℕ → List ℕ → List ℕ → Store
+fresh year month day numbers rows =
+    record {
+      year = year;
+      month = month;
+      day = day;
+      stations = table (length numbers) (λ i. record { number = getD numbers i 0; row = getD rows i 0; settled = 0; block = emptyBlock });
+    }

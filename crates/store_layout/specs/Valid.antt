@@ -1,0 +1,50 @@
+-- Which models are stores: "A buffer that breaks any of this is unsound", said of the model.
+-- Assumes nothing.
+use mathlib.Core.Path.{_≡_}
+use mathlib.Core.Bool.{Bool, true, _||_}
+use Prim.Native.Nat.{ℕ, suc, _≤_, _<_}
+use lib.Dec.{leb, eqb}
+use lib.ListN.{length}
+use Rattle.calendar.specs.Dates.{isDate}
+use Rattle.quality.specs.Cell.{Cell, slot}
+use Rattle.quality.specs.Elements.{column}
+use Rattle.quality.specs.Valid.{ValidSheet}
+use Rattle.store_layout.specs.Model.{Block, Station, Store, headOf, stationAt}
+use Rattle.quality.specs.declared.head.SlotHead.{SlotHead}
+
+-- "dd 0 to 36 or 99, else 100"
+abbrev pub isDirection : ℕ → Bool
+isDirection dd = leb dd 36 || eqb dd 99 || eqb dd 100
+
+pub record ValidHead (h : SlotHead) : Type 0 where
+  pub filed : h .filed ≤ 1
+  pub ir : h .ir ≤ 5
+  pub tr : h .tr ≤ 9
+  pub dd : isDirection (h .dd) ≡ true
+
+-- "Raw cells have state 0 or 1, flag 0."
+pub record RawCell (c : Cell) : Type 0 where
+  pub state : c .state ≤ 1
+  pub flag : c .flag ≡ 0
+
+pub record ValidBlock (b : Block) : Type 0 where
+  pub nine : length (b .heads) ≡ 9
+  pub heads : (k : ℕ) → k < 9 → ValidHead (headOf b k)
+  pub raw : ValidSheet (b .raw)
+  pub unchecked : (e k : ℕ) → e < 9 → k < 9 → RawCell (slot (column (b .raw) e) k)
+  pub checked : ValidSheet (b .checked)
+
+pub record ValidStation (s : Station) : Type 0 where
+  pub least : 1 ≤ s .number
+  pub most : s .number ≤ 99999
+  pub row : s .row ≤ 1
+  pub settled : s .settled ≤ 1
+  pub block : ValidBlock (s .block)
+
+-- "One store covers one day and 1 to 32 land stations"; "ascending by station, each once"
+pub record ValidStore (m : Store) : Type 0 where
+  pub date : isDate (m .year) (m .month) (m .day) ≡ true
+  pub some : 1 ≤ length (m .stations)
+  pub few : length (m .stations) ≤ 32
+  pub each : (i : ℕ) → i < length (m .stations) → ValidStation (stationAt (m .stations) i)
+  pub ascending : (i : ℕ) → suc i < length (m .stations) → stationAt (m .stations) i .number < stationAt (m .stations) (suc i) .number

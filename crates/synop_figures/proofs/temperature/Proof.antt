@@ -1,0 +1,20 @@
+-- `synop_figures::temperature` meets its contract: what `three` answered picks the case of the rule.
+-- Assumes nothing.
+use mathlib.Core.Path.{sym, _∙_}
+use borrow.Author.Needs.{needs}
+use Rattle.synop_figures.specs.Elements.{temperature}
+use Rattle.synop_figures.proofs.Numbers.{three-below, of-number}
+use Rattle.synop_figures.proofs.temperature.Statement.{statement}
+use Rattle.synop_figures.proofs.temperature.Tie as tie
+
+pub temperature-spec : {M : Type 1} → statement M
+unfolding temperature
+temperature-spec =
+    tie.close
+    (tie.spec
+    (λ c κs. search needs)
+    (λ c. search needs)
+    (λ c. search needs)
+    (λ c κs. of-number 1000 (three-below _ _ _) (sym (c .before .before .before .three .ensures) ∙ c .before .n .given .1))
+    (λ c. rw (sym (c .before .before .three .ensures) ∙ c .enum-told .given .1))
+    (λ c. rw (sym (c .before .before .before .before .three .ensures) ∙ c .before .before .n .given .1) (c .temperature-of .ensures)))

@@ -1,8 +1,0 @@
--- `text::is_figure` meets its contract, by what `is_digit` ensures.
--- Assumes nothing.
-use Rattle.text.proofs.is_figure.Statement.{statement}
-use Rattle.text.proofs.is_figure.Tie as tie
-use borrow.Author.Needs.{needs}
-
-pub is-figure-spec : {M : Type 1} → statement M
-is-figure-spec = tie.close (tie.spec (λ c κs. search needs) (λ c. rw (c .is-digit .ensures)))
