@@ -3,6 +3,7 @@
 --     answers-A, answers-B      the station's answers in either run
 -- Assumes nothing.
 use mathlib.Core.Path.{_≡_, refl, sym, _∙_, ap}
+use mathlib.Core.Bool.{true}
 use mathlib.Core.List.{List, [], _∷_, map}
 use mathlib.Core.Option as option
 use Prim.Native.Nat.{ℕ, zero, suc}
@@ -26,7 +27,7 @@ use Rattle.synop_figures.specs.Digits
 use Rattle.synop_figures.specs.Elements
 use Rattle.synop_figures.specs.Heads
 use Rattle.synop_codes.specs.Value.{missing, read}
-use Rattle.synop_parts.specs.Parts
+use Rattle.synop_contents.specs.Parts
 use Rattle.synop_contents.specs.Contents
 use Rattle.synop.specs.Report
 use Rattle.quality.specs.Steps
@@ -78,7 +79,7 @@ small = file (bytes "aaxx=")
 abbrev report : Ask
 report =
     named 40001
-    (take 11 6 (record { «rain_indicator» = 1; «rain_duration» = 2; «wind_direction» = 27 })
+    (take 11 6 (record { «rain_indicator» = 1; «rain_sent» = true; «rain_duration» = 2; «wind_direction» = 27 })
     (read (pos 103) ∷ read (pos 71) ∷ read (pos 10132) ∷ read (pos 40) ∷ read (pos 6) ∷ read (pos 100) ∷ read (pos 40) ∷ missing ∷ missing ∷ []))
 
 asks : (ask whole ≡ report)

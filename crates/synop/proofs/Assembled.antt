@@ -14,7 +14,7 @@ use Rattle.synop_checks.specs.Refusal.{ofGroups, refusal}
 use Rattle.synop_order.specs.Places.{isNil}
 use Rattle.synop_order.specs.declared.Place.{Place}
 use Rattle.laws.proofs.Bools.{via}
-use Rattle.synop_parts.specs.Parts as parts
+use Rattle.synop_contents.specs.Parts as parts
 use Rattle.synop_contents.specs.Contents.{identificationOf, indicatorsOf}
 use Rattle.synop.specs.Report.{refused, nil, whole, part, rainGroup, valuesIn, content, read, report}
 use Rattle.synop_contents.specs.declared.Identification.{Identification}

@@ -1,6 +1,7 @@
 -- Document 01's own examples, computed on the definitions: the texts of the table of refusals, and the report of the printed day.
 -- Assumes nothing.
 use mathlib.Core.Path.{_≡_, refl}
+use mathlib.Core.Bool.{true, false}
 use mathlib.Core.List.{List, [], _∷_}
 use Prim.Native.Nat.{ℕ}
 use lib.IntN.{pos}
@@ -19,7 +20,7 @@ use Rattle.synop_checks.specs.Shapes.{areDigits, shapedFrom}
 use Rattle.synop_checks.specs.Ranges.{isDay, isHour, isUnit, isTime, isStation, rangedFrom}
 use Rattle.synop_checks.specs.Refusal.{ofGroups, refusal}
 use Rattle.synop_contents.specs.Contents as contents
-use Rattle.synop_parts.specs.Parts as parts
+use Rattle.synop_contents.specs.Parts as parts
 use Rattle.synop.specs.Report as reports
 use Rattle.synop.specs.Report.{Report, whole, report}
 
@@ -56,7 +57,7 @@ pub record Examples : Type 0 where
   pub five : refusal too-few ≡ 5
   pub day :
       report a-report
-      ≡ whole (record { station = 40001; day = 11; hour = 6 }) (record { «rain_indicator» = 1; «rain_duration» = 2; «wind_direction» = 27 })
+      ≡ whole (record { station = 40001; day = 11; hour = 6 }) (record { «rain_indicator» = 1; «rain_sent» = true; «rain_duration» = 2; «wind_direction» = 27 })
       (read (pos 103) ∷ read (pos 71) ∷ read (pos 10132) ∷ read (pos 40) ∷ read (pos 6) ∷ read (pos 100) ∷ read (pos 40) ∷ missing ∷ missing ∷ [])
 
 pub examples : Examples

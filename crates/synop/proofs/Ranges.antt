@@ -26,8 +26,8 @@ use Rattle.synop_checks.specs.Ranges.{isDay, isHour, isUnit, isTime, isStation,
 use Rattle.synop_checks.specs.Refusal.{ofGroups, refusal}
 use Rattle.synop_order.specs.declared.Place.{Place}
 use Rattle.synop_order.specs.declared.Place.the-variants.{Start, Station}
-use Rattle.synop_parts.specs.Parts as parts
-use Rattle.synop_parts.specs.Parts.{first}
+use Rattle.synop_contents.specs.Parts as parts
+use Rattle.synop_contents.specs.Parts.{first}
 use Rattle.synop_contents.specs.Contents.{charactersOf, numberOf, twoOf, stationOf, identificationOf}
 use Rattle.synop_contents.proofs.Numbers.{number-below}
 use Rattle.synop_contents.proofs.Ranges.{Headed, Valued, headed, valued}

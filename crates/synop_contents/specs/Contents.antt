@@ -9,6 +9,7 @@ use Rattle.synop_codes.specs.Value.{Value, meaning}
 use Rattle.synop_figures.specs.declared.Number.{Number}
 use Rattle.synop_text.specs.Kinds.{onFive}
 use Rattle.synop_text.specs.declared.Group.{Group}
+use Rattle.synop_contents.specs.Parts.{isSent}
 use Rattle.synop_contents.specs.declared.Characters.{Characters}
 use Rattle.synop_contents.specs.declared.Identification.{Identification}
 use Rattle.synop_contents.specs.declared.Indicators.{Indicators}
@@ -40,11 +41,12 @@ identificationOf time station =
       hour = twoOf (charactersOf time .c) (charactersOf time .d);
     }
 
--- iR of iRixhVV, tR of 6RRRtR, dd of Nddff
+-- iR of iRixhVV, whether 6RRRtR was sent, its tR, dd of Nddff
 unfoldable pub indicatorsOf : Group → Group → Group → Indicators
 indicatorsOf visibility wind rain =
     record {
       «rain_indicator» = heads.rainIndicator (charactersOf visibility .a);
+      «rain_sent» = isSent rain;
       «rain_duration» = heads.rainDuration (charactersOf rain .b) (charactersOf rain .c) (charactersOf rain .d) (charactersOf rain .e);
       «wind_direction» = heads.windDirection (charactersOf wind .b) (charactersOf wind .c);
     }

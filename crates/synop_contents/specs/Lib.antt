@@ -1,2 +1,3 @@
--- What the groups of a report hold.
+-- What the groups of a report hold, and which group is which.
+pub mod Parts
 pub mod Contents

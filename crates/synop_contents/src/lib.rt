@@ -1,7 +1,11 @@
-// What the groups of a report hold: the heading, the head and the nine values, from the characters of the groups that they stand in.
+// What the groups of a report hold: who reports and for when, the indicators and the nine values, from the characters of the
+// groups that they stand in. Which group is which is the matter of `parts`.
+pub mod parts;
+
 ghost use mathlib.Core.Path.{_≡_};
 ghost use Rattle.synop_codes.specs.Value.{meaning};
 ghost use Rattle.synop_contents.specs.Contents as contents;
+use crate::parts::is_sent;
 use synop_codes::Value;
 use synop_figures::Number;
 use synop_text::Group;
@@ -13,9 +17,10 @@ pub struct Identification {
     pub hour: u8,
 }
 
-// The head of a slot: iR, tR and dd.
+// What a report gives for the head of its slot: iR, whether a group 6 was sent, tR and dd.
 pub struct Indicators {
     pub rain_indicator: u8,
+    pub rain_sent: bool,
     pub rain_duration: u8,
     pub wind_direction: u8,
 }
@@ -106,6 +111,7 @@ pub fn indicators_of(visibility: Group, wind: Group, rain: Group) -> Indicators
     let x = characters_of(rain);
     Indicators {
         rain_indicator: synop_figures::rain_indicator(v.a),
+        rain_sent: is_sent(rain),
         rain_duration: synop_figures::rain_duration(x.b, x.c, x.d, x.e),
         wind_direction: synop_figures::wind_direction(w.b, w.c),
     }

@@ -11,13 +11,13 @@ use Rattle.synop_contents.proofs.indicators_of.Tie as tie
 returns : tie.Need-returns
 unfolding indicatorsOf
 returns c =
-    let x = c .before .before .before in
-    let indicator = c .before .before .rain-indicator .ensures ∙ ap (λ (v : Characters). heads.rainIndicator (v .a)) (x .before .before .characters-of .ensures) in
+    let x = c .before .before .before .before in
+    let indicator = c .before .before .before .rain-indicator .ensures ∙ ap (λ (v : Characters). heads.rainIndicator (v .a)) (x .before .before .characters-of .ensures) in
     let duration = c .before .rain-duration .ensures ∙ ap (λ (v : Characters). heads.rainDuration (v .b) (v .c) (v .d) (v .e)) (x .characters-of3 .ensures) in
     let direction = c .wind-direction .ensures ∙ ap (λ (v : Characters). heads.windDirection (v .b) (v .c)) (x .before .characters-of2 .ensures) in
-    λ i. record { «rain_indicator» = indicator i; «rain_duration» = duration i; «wind_direction» = direction i }
+    λ i. record { «rain_indicator» = indicator i; «rain_sent» = c .before .before .is-sent .ensures i; «rain_duration» = duration i; «wind_direction» = direction i }
 
 pub indicators-of-spec : {M : Type 1} → statement M
 indicators-of-spec =
     tie.close
-    (tie.spec (λ c κs. search needs) (λ c κs. search needs) (λ c κs. search needs) (λ c κs. search needs) (λ c κs. search needs) (λ c κs. search needs) returns)
+    (tie.spec (λ c κs. search needs) (λ c κs. search needs) (λ c κs. search needs) (λ c κs. search needs) (λ c κs. search needs) (λ c κs. search needs) (λ c κs. search needs) returns)

@@ -1,9 +1,9 @@
--- `synop_parts::of_one` meets its contract, by the digit.
+-- `synop_contents::parts::of_one` meets its contract, by the digit.
 -- Assumes nothing.
 use Rattle.laws.proofs.Rules.{tests}
-use Rattle.synop_parts.specs.Parts.{ofOne}
-use Rattle.synop_parts.proofs.of_one.Statement.{statement}
-use Rattle.synop_parts.proofs.of_one.Tie as tie
+use Rattle.synop_contents.specs.Parts.{ofOne}
+use Rattle.synop_contents.proofs.parts.of_one.Statement.{statement}
+use Rattle.synop_contents.proofs.parts.of_one.Tie as tie
 
 pub of-one-spec : {M : Type 1} → statement M
 unfolding ofOne

@@ -1,6 +1,6 @@
 // Which group of a report is which: the parts that are read, each by a number, found by the places of the groups.
 ghost use mathlib.Core.Path.{_≡_};
-ghost use Rattle.synop_parts.specs.Parts as parts;
+ghost use Rattle.synop_contents.specs.Parts as parts;
 use synop_order::Place;
 use synop_text::Group;
 
@@ -41,6 +41,19 @@ pub fn first_of(g: Group, h: Group) -> Group
         Group::Nil => g,
         Group::Section(_) => g,
         Group::Five(_, _, _, _, _) => g,
+    }
+}
+
+// Whether a part was sent, `Other` standing for none.
+pub fn is_sent(g: Group) -> bool
+    ensures { λ r. ⌜ r ≡ parts.isSent g ⌝ }
+{
+    match g {
+        Group::Other => false,
+        Group::Aaxx => true,
+        Group::Nil => true,
+        Group::Section(_) => true,
+        Group::Five(_, _, _, _, _) => true,
     }
 }
 

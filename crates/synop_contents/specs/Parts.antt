@@ -1,6 +1,6 @@
 -- Which group is which: the parts of a report that are read, each by a number, found by the places of the groups.
 -- Assumes nothing.
-use mathlib.Core.Bool.{Bool, not, cond, _&&_}
+use mathlib.Core.Bool.{Bool, true, false, not, cond, _&&_}
 use mathlib.Core.List.{List, [], _∷_}
 use Prim.Native.Nat.{ℕ}
 use lib.Dec.{eqb}
@@ -94,6 +94,14 @@ firstOf Aaxx h = Aaxx
 firstOf Nil h = Nil
 firstOf (Section m) h = Section m
 firstOf (Five a b c d e) h = Five a b c d e
+
+-- the report has the part, be its characters `/` or not
+abbrev pub isSent : Group → Bool
+isSent Other = false
+isSent Aaxx = true
+isSent Nil = true
+isSent (Section m) = true
+isSent (Five a b c d e) = true
 
 -- the first group after a place that is part k: "In section 3 the first 1, 2 and 6 group counts"
 unfoldable pub first : ℕ → Place → List Group → Group

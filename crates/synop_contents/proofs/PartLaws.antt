@@ -8,7 +8,7 @@ use Rattle.synop_text.specs.declared.Group.{Group}
 use Rattle.synop_text.specs.declared.Group.the-variants.{Other, Aaxx, Nil, Section, Five}
 use Rattle.synop_order.specs.declared.Place.{Place}
 use Rattle.synop_order.specs.declared.Place.the-variants.{Start, Letters, Time, Station, Nothing, Visibility, Wind, Gale, One, Later, Wrong}
-use Rattle.synop_parts.specs.Parts.{ofOne, ofThree, inThree, ofLater, partOf, firstOf}
+use Rattle.synop_contents.specs.Parts.{ofOne, ofThree, inThree, ofLater, partOf, firstOf}
 
 either : (b : Bool) {m n : ℕ} → m < 13 → n < 13 → cond b m n < 13
 either true h l = h

@@ -1,8 +1,8 @@
--- `synop_parts::part_of` meets its contract: each place by what is ensured of it.
+-- `synop_contents::parts::part_of` meets its contract: each place by what is ensured of it.
 -- Assumes nothing.
 use borrow.Author.Needs.{needs}
-use Rattle.synop_parts.proofs.part_of.Statement.{statement}
-use Rattle.synop_parts.proofs.part_of.Tie as tie
+use Rattle.synop_contents.proofs.parts.part_of.Statement.{statement}
+use Rattle.synop_contents.proofs.parts.part_of.Tie as tie
 
 pub part-of-spec : {M : Type 1} → statement M
 part-of-spec =

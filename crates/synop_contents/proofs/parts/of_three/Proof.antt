@@ -1,9 +1,9 @@
--- `synop_parts::of_three` meets its contract, by the character.
+-- `synop_contents::parts::of_three` meets its contract, by the character.
 -- Assumes nothing.
 use Rattle.laws.proofs.Rules.{tests}
-use Rattle.synop_parts.specs.Parts.{ofThree}
-use Rattle.synop_parts.proofs.of_three.Statement.{statement}
-use Rattle.synop_parts.proofs.of_three.Tie as tie
+use Rattle.synop_contents.specs.Parts.{ofThree}
+use Rattle.synop_contents.proofs.parts.of_three.Statement.{statement}
+use Rattle.synop_contents.proofs.parts.of_three.Tie as tie
 
 pub of-three-spec : {M : Type 1} → statement M
 unfolding ofThree

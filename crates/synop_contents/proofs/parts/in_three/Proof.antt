@@ -1,8 +1,8 @@
--- `synop_parts::in_three` meets its contract: five characters by what is ensured of the first.
+-- `synop_contents::parts::in_three` meets its contract: five characters by what is ensured of the first.
 -- Assumes nothing.
 use borrow.Author.Needs.{needs}
-use Rattle.synop_parts.proofs.in_three.Statement.{statement}
-use Rattle.synop_parts.proofs.in_three.Tie as tie
+use Rattle.synop_contents.proofs.parts.in_three.Statement.{statement}
+use Rattle.synop_contents.proofs.parts.in_three.Tie as tie
 
 pub in-three-spec : {M : Type 1} → statement M
 in-three-spec =

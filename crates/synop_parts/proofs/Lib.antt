@@ -1,2 +1,0 @@
--- Laws of the parts of a report.
-pub mod Laws

@@ -1,2 +1,0 @@
--- Which group of a report is which.
-pub mod Parts
