@@ -87,11 +87,11 @@ module _ {s : List ℕ} {kept : List Group} {p : Place} {good : Bool} {at : ℕ}
       let number : k ≡ partOf (next p g) g = ek ∙ ap (λ (a : Place). partOf a g) eq in
       rw (eq, er) (taken step (via et ok) (subst (λ (n : ℕ). n < 13) (sym number) (part-below (next p g) g)) number ex)
 
-  pub stop : {g : Group} {to : ℕ} {t : Bool} → Kind s at g to → t ≡ shaped p g → t ≡ false → refused 3 ≡ read (ofGroups (tokens s)) (tokens s)
-  unfolding shapedFrom ofGroups read
+  pub stop : {g : Group} {to : ℕ} {t : Bool} → Kind s at g to → t ≡ shaped p g → t ≡ false → answered p false good kept ≡ read (ofGroups (tokens s)) (tokens s)
+  unfolding shapedFrom ofGroups read answered
   stop {g} {to} step et bad = rw (w .shape, step .first, via et bad)
 
-  pub past : tokens (drop at s) ≡ [] → answered p good kept ≡ read (ofGroups (tokens s)) (tokens s)
+  pub past : tokens (drop at s) ≡ [] → answered p true good kept ≡ read (ofGroups (tokens s)) (tokens s)
   unfolding shapedFrom rangedFrom final first parts ofGroups read answered
   past e = sym (rw (shape, range, place, ← whole) (settled (begun p) good (complete p) (content p kept)))
     where

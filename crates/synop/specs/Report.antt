@@ -1,6 +1,6 @@
 -- What a text is: refused with a number, a report that says nothing, or a whole one; and the same of the code's answer.
 -- Assumes nothing.
-use mathlib.Core.Bool.{Bool, cond}
+use mathlib.Core.Bool.{Bool, cond, _&&_}
 use mathlib.Core.List.{List}
 use Prim.Native.Nat.{ℕ}
 use lib.Dec.{eqb}
@@ -58,10 +58,10 @@ content p kept =
 unfoldable pub read : ℕ → List Group → Report
 read n gs = cond (eqb n 0) (content (final Start gs) (parts.parts gs)) (refused n)
 
--- the same from where a walk over the groups ends: the place of the last group, whether all were in range, and the parts. All had
--- their shape.
-unfoldable pub answered : Place → Bool → List Group → Report
-answered p ranged kept = cond (begun p) (cond ranged (cond (complete p) (content p kept) (refused 5)) (refused 4)) (refused 3)
+-- the same from where a walk over the groups ends: the place of the last group, whether all had their shapes and were in range, and
+-- the parts. A group without its shape ends the walk.
+unfoldable pub answered : Place → Bool → Bool → List Group → Report
+answered p shaped ranged kept = cond (shaped && begun p) (cond ranged (cond (complete p) (content p kept) (refused 5)) (refused 4)) (refused 3)
 
 -- what a text is
 unfoldable pub report : List ℕ → Report

@@ -67,11 +67,12 @@ fn content(p: Place, kept: [Group; 13]) -> Report
     Report::Whole(heading, head, values_in(kept, rain))
 }
 
-// What the groups that were walked are: all had their shape.
-fn answer(p: Place, ranged: bool, kept: [Group; 13]) -> Report
-    ensures { λ r. ⌜ reports.meaning r ≡ reports.answered p ranged kept ⌝ }
+// What the groups that were walked are: the first check that fails, or the content.
+fn answer(p: Place, shaped: bool, ranged: bool, kept: [Group; 13]) -> Report
+    ensures { λ r. ⌜ reports.meaning r ≡ reports.answered p shaped ranged kept ⌝ }
 {
-    if synop_order::begun(p) {
+    let shape = shaped & synop_order::begun(p);
+    if shape {
         if ranged {
             if synop_order::complete(p) {
                 return content(p, kept);
@@ -95,10 +96,10 @@ fn walk(text: &[u8]) -> Report
     let mut c = Cursor::new();
     loop {
         let Token::Group(g, next) = c.take(text) else {
-            return answer(place, ranged, kept);
+            return answer(place, true, ranged, kept);
         };
         if !synop_checks::shaped(place, g) {
-            return Report::Refused(3);
+            return answer(place, false, ranged, kept);
         }
         ranged = ranged & synop_checks::ranged(place, g);
         place = synop_order::next(place, g);

@@ -1,7 +1,6 @@
 -- `synop::answer` meets its contract: each answer by the tests that led there.
 -- Assumes nothing.
 use borrow.Author.Needs.{needs}
-use mathlib.Core.Path.{sym, _∙_}
 use Rattle.synop.specs.Report.{answered}
 use Rattle.synop.proofs.answer.Statement.{statement}
 use Rattle.synop.proofs.answer.Tie as tie
@@ -11,7 +10,7 @@ unfolding answered
 answer-spec =
     tie.close
     (tie.spec (λ c κs. search needs) (λ c κs. search needs) (λ c κs. search needs)
-    (λ c. rw (sym (c .before .before .before .before .before .begun .ensures) ∙ c .before .before .before .before .if1 .taken, c .before .before .before .if2 .taken, sym (c .before .before .complete .ensures) ∙ c .before .if3 .taken) (c .content .ensures))
-    (λ c. rw (sym (c .before .before .before .before .begun .ensures) ∙ c .before .before .before .if1 .taken, c .before .before .if2 .taken, sym (c .before .complete .ensures) ∙ c .if3 .left))
-    (λ c. rw (sym (c .before .before .begun .ensures) ∙ c .before .if1 .taken, c .if2 .left))
-    (λ c. rw (sym (c .before .begun .ensures) ∙ c .if1 .left)))
+    (λ c. rw (← c .before .before .before .before .before .begun .ensures, c .before .before .before .before .if1 .taken, c .before .before .before .if2 .taken, ← c .before .before .complete .ensures, c .before .if3 .taken) (c .content .ensures))
+    (λ c. rw (← c .before .before .before .before .begun .ensures, c .before .before .before .if1 .taken, c .before .before .if2 .taken, ← c .before .complete .ensures, c .if3 .left))
+    (λ c. rw (← c .before .before .begun .ensures, c .before .if1 .taken, c .if2 .left))
+    (λ c. rw (← c .before .begun .ensures, c .if1 .left)))
