@@ -6,9 +6,7 @@ use mathlib.Core.Path.{_≡_, refl, sym, _∙_, ap}
 use mathlib.Core.Bool.{true}
 use mathlib.Core.List.{List, [], _∷_, map}
 use mathlib.Core.Option as option
-use Prim.Native.Nat.{ℕ, zero, suc}
-use Prim.Native.Char.{code}
-use Prim.Native.String.{String, len, charAt}
+use Prim.Native.Nat.{ℕ}
 use native.Mathlib.Omega.{arith}
 use lib.IntN.{pos}
 use Rattle.laws.specs.Table.{table}
@@ -25,11 +23,12 @@ use Rattle.synop_checks.specs.Shapes
 use Rattle.synop_codes.specs.Tables
 use Rattle.synop_figures.specs.Digits
 use Rattle.synop_figures.specs.Elements
-use Rattle.synop_figures.specs.Heads
+use Rattle.synop_figures.specs.Indicators
 use Rattle.synop_codes.specs.Value.{missing, read}
 use Rattle.synop_contents.specs.Parts
 use Rattle.synop_contents.specs.Contents
 use Rattle.synop.specs.Report
+use Rattle.synop.proofs.Examples.{bytesFrom, bytes}
 use Rattle.quality.specs.Steps
 use Rattle.quality.specs.Settled
 use Rattle.vapour.specs.Vapour
@@ -57,14 +56,6 @@ use Rattle.rules.proofs.Demand3.{demand3}
 use Rattle.rules.proofs.Isolation.{newStation, date, holds-opened}
 
 -- ---- the texts
--- the bytes of a text, n of them from the i-th on
-bytesFrom : ℕ → ℕ → String → List ℕ
-bytesFrom zero i s = []
-bytesFrom (suc n) i s = code (charAt s i) ∷ bytesFrom n (suc i) s
-
-bytes : String → List ℕ
-bytes s = bytesFrom (len s) 0 s
-
 -- document 01's report; one of another station; one that passes no check
 whole : Call
 whole = file (bytes "AAXX 11061 40001 12360 62704 10103 20071 40132 60042=")
@@ -93,7 +84,7 @@ unfolding whole neighbour small bytes bytesFrom table
     Refusal.ofGroups Refusal.refusal Shapes.areDigits Shapes.shapedFrom
     Digits.two Digits.three Digits.four
     Tables.temperatureOf Elements.temperature Tables.pressureOf Elements.pressure Tables.windOf Elements.windFf Elements.windFff Tables.cloudOf Elements.cloud Tables.visibilityOf Elements.visibility Tables.rainOf Elements.rain
-    Tables.rainIndicatorOf Heads.rainIndicator Tables.windDirectionOf Heads.windDirection Heads.rainDurationOf Heads.rainDuration
+    Tables.rainIndicatorOf Indicators.rainIndicator Tables.windDirectionOf Indicators.windDirection Indicators.rainDurationOf Indicators.rainDuration
     Contents.charactersOf Contents.twoOf Contents.stationOf Contents.identificationOf Contents.indicatorsOf Contents.temperatureOf Contents.pressureOf Contents.cloudOf Contents.visibilityOf Contents.rainOf Contents.ffOf Contents.windOf Contents.valuesOf
     Parts.ofOne Parts.ofThree Parts.ofLater Parts.first Parts.parts
     Report.valuesIn Report.content Report.read Report.report

@@ -11,13 +11,13 @@ use Prim.Native.Nat.{ℕ, zero, suc, _<_}
 use borrow.Author.Tests.{le-leb, lt-ltb}
 use lib.ListN.{length, getD}
 use Rattle.synop_codes.specs.Value.{Value, missing, Within}
-use Rattle.synop_codes.proofs.Within.{Direction}
-use Rattle.synop_contents.proofs.Ranges.{AllWithin}
+use Rattle.synop_codes.proofs.CodeRanges.{Direction}
+use Rattle.synop_contents.proofs.ContentRanges.{AllWithin}
 use Rattle.store_layout.specs.Valid.{isDirection}
 use Rattle.synop_checks.specs.Bytes.{check1}
 use Rattle.synop_checks.specs.Refusal.{refusal}
 use Rattle.synop.specs.Report.{Report, read, report}
-use Rattle.synop.proofs.Ranges.{InRange, report-in-range}
+use Rattle.synop.proofs.ReportRanges.{InRange, report-in-range}
 use Rattle.rules.proofs.Requests.{Fits, ReportBounds}
 
 -- dd, as a test

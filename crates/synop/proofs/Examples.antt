@@ -1,15 +1,18 @@
 -- Document 01's own examples, computed on the definitions: the texts of the table of refusals, and the report of the printed day.
+-- Then reports with and without a group 6 that counts.
 -- Assumes nothing.
 use mathlib.Core.Path.{_≡_, refl}
-use mathlib.Core.Bool.{true, false}
+use mathlib.Core.Bool.{Bool, true, false}
 use mathlib.Core.List.{List, [], _∷_}
-use Prim.Native.Nat.{ℕ}
+use Prim.Native.Nat.{ℕ, zero, suc}
+use Prim.Native.Char.{code}
+use Prim.Native.String.{String, len, charAt}
 use lib.IntN.{pos}
 use Rattle.laws.specs.Table.{table}
 use Rattle.synop_codes.specs.Tables as tables
 use Rattle.synop_figures.specs.Digits.{two, three, four}
 use Rattle.synop_figures.specs.Elements as elements
-use Rattle.synop_figures.specs.Heads as heads
+use Rattle.synop_figures.specs.Indicators as indicators
 use Rattle.synop_codes.specs.Value.{missing, read}
 use Rattle.synop_text.specs.Characters.{areFigures}
 use Rattle.synop_text.specs.Groups.{cut}
@@ -24,42 +27,37 @@ use Rattle.synop_contents.specs.Parts as parts
 use Rattle.synop.specs.Report as reports
 use Rattle.synop.specs.Report.{Report, whole, report}
 
--- `AAXX`
-abbrev no-end : List ℕ
-no-end = 65 ∷ 65 ∷ 88 ∷ 88 ∷ []
+-- ---- the texts
+-- the bytes of a text, n of them from the i-th on
+unfoldable pub bytesFrom : ℕ → ℕ → String → List ℕ
+bytesFrom zero i s = []
+bytesFrom (suc n) i s = code (charAt s i) ∷ bytesFrom n (suc i) s
 
--- `aaxx=`
-abbrev small-letters : List ℕ
-small-letters = 97 ∷ 97 ∷ 120 ∷ 120 ∷ 61 ∷ []
+unfoldable pub bytes : String → List ℕ
+bytes s = bytesFrom (len s) 0 s
 
--- `=`
-abbrev no-group : List ℕ
-no-group = 61 ∷ []
-
--- `AAXX 11062 40001 NIL=`
-abbrev wrong-unit : List ℕ
-wrong-unit = 65 ∷ 65 ∷ 88 ∷ 88 ∷ 32 ∷ 49 ∷ 49 ∷ 48 ∷ 54 ∷ 50 ∷ 32 ∷ 52 ∷ 48 ∷ 48 ∷ 48 ∷ 49 ∷ 32 ∷ 78 ∷ 73 ∷ 76 ∷ 61 ∷ []
-
--- `AAXX 11061=`
-abbrev too-few : List ℕ
-too-few = 65 ∷ 65 ∷ 88 ∷ 88 ∷ 32 ∷ 49 ∷ 49 ∷ 48 ∷ 54 ∷ 49 ∷ 61 ∷ []
-
--- `AAXX 11061 40001 12360 62704 10103 20071 40132 60042=`
-abbrev a-report : List ℕ
-a-report =
-    65 ∷ 65 ∷ 88 ∷ 88 ∷ 32 ∷ 49 ∷ 49 ∷ 48 ∷ 54 ∷ 49 ∷ 32 ∷ 52 ∷ 48 ∷ 48 ∷ 48 ∷ 49 ∷ 32 ∷ 49 ∷ 50 ∷ 51 ∷ 54 ∷ 48 ∷ 32 ∷ 54 ∷ 50 ∷ 55 ∷ 48 ∷ 52 ∷ 32 ∷ 49 ∷ 48 ∷ 49 ∷ 48 ∷ 51 ∷ 32 ∷ 50 ∷ 48 ∷ 48 ∷ 55 ∷ 49 ∷ 32 ∷ 52 ∷ 48 ∷ 49 ∷ 51 ∷ 50 ∷ 32 ∷ 54 ∷ 48 ∷ 48 ∷ 52 ∷ 50 ∷ 61 ∷ []
+-- what a report without T, D, P, W, C, V, X and M gives for iR 3, a group 6 sent or not, and R missing
+abbrev no-rain : Bool → Report
+no-rain sent =
+    whole (record { station = 40001; day = 11; hour = 6 }) (record { «rain_indicator» = 3; «rain_sent» = sent; «rain_duration» = 0; «wind_direction» = 100 })
+    (missing ∷ missing ∷ missing ∷ missing ∷ missing ∷ missing ∷ missing ∷ missing ∷ missing ∷ [])
 
 pub record Examples : Type 0 where
-  pub one : refusal no-end ≡ 1
-  pub two : refusal small-letters ≡ 2
-  pub three : refusal no-group ≡ 3
-  pub four : refusal wrong-unit ≡ 4
-  pub five : refusal too-few ≡ 5
+  pub one : refusal (bytes "AAXX") ≡ 1
+  pub two : refusal (bytes "aaxx=") ≡ 2
+  pub three : refusal (bytes "=") ≡ 3
+  pub four : refusal (bytes "AAXX 11062 40001 NIL=") ≡ 4
+  pub five : refusal (bytes "AAXX 11061=") ≡ 5
   pub day :
-      report a-report
+      report (bytes "AAXX 11061 40001 12360 62704 10103 20071 40132 60042=")
       ≡ whole (record { station = 40001; day = 11; hour = 6 }) (record { «rain_indicator» = 1; «rain_sent» = true; «rain_duration» = 2; «wind_direction» = 27 })
       (read (pos 103) ∷ read (pos 71) ∷ read (pos 10132) ∷ read (pos 40) ∷ read (pos 6) ∷ read (pos 100) ∷ read (pos 40) ∷ missing ∷ missing ∷ [])
+  -- "6RRRtR of section 1, or, where that group is not there, of section 3": sent, though R is missing; in a 55 run; not at all
+  pub slashes : report (bytes "AAXX 11061 40001 3//// ///// 6////=") ≡ no-rain true
+  pub later : report (bytes "AAXX 11061 40001 3//// ///// 333 6////=") ≡ no-rain true
+  pub run : report (bytes "AAXX 11061 40001 3//// ///// 333 55300 60042=") ≡ no-rain false
+  pub dry : report (bytes "AAXX 11061 40001 3//// /////=") ≡ no-rain false
 
 pub examples : Examples
-unfolding table two three four elements.temperature tables.temperatureOf elements.pressure tables.pressureOf elements.windFf tables.windOf elements.cloud tables.cloudOf elements.visibility tables.visibilityOf elements.rain tables.rainOf heads.rainIndicator tables.rainIndicatorOf heads.windDirection tables.windDirectionOf heads.rainDuration heads.rainDurationOf areFigures cut kinds.kindOf kinds.ofThree kinds.ofFour kinds.ofFive places.aaxxAfter places.opened places.ordered places.firstOfOne places.final places.complete ended check1 isKnown check2 areDigits shapedFrom isDay isHour isUnit isTime isStation rangedFrom ofGroups refusal contents.charactersOf contents.twoOf contents.stationOf contents.identificationOf contents.indicatorsOf contents.temperatureOf contents.pressureOf contents.cloudOf contents.visibilityOf contents.rainOf contents.ffOf contents.windOf contents.valuesOf parts.ofOne parts.ofThree parts.ofLater parts.first parts.parts reports.valuesIn reports.content reports.read report
-examples = record { one = refl; two = refl; three = refl; four = refl; five = refl; day = refl }
+unfolding bytes bytesFrom table two three four elements.temperature tables.temperatureOf elements.pressure tables.pressureOf elements.windFf tables.windOf elements.cloud tables.cloudOf elements.visibility tables.visibilityOf elements.rain tables.rainOf indicators.rainIndicator tables.rainIndicatorOf indicators.windDirection tables.windDirectionOf indicators.rainDuration indicators.rainDurationOf areFigures cut kinds.kindOf kinds.ofThree kinds.ofFour kinds.ofFive places.aaxxAfter places.opened places.ordered places.firstOfOne places.final places.complete ended check1 isKnown check2 areDigits shapedFrom isDay isHour isUnit isTime isStation rangedFrom ofGroups refusal contents.charactersOf contents.twoOf contents.stationOf contents.identificationOf contents.indicatorsOf contents.temperatureOf contents.pressureOf contents.cloudOf contents.visibilityOf contents.rainOf contents.ffOf contents.windOf contents.valuesOf parts.ofOne parts.ofThree parts.ofLater parts.first parts.parts reports.valuesIn reports.content reports.read report
+examples = record { one = refl; two = refl; three = refl; four = refl; five = refl; day = refl; slashes = refl; later = refl; run = refl; dry = refl }

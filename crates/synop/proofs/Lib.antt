@@ -1,6 +1,6 @@
--- Laws of the reading of a report. `Refusals` and `Ranges` are for callers.
+-- Laws of the reading of a report. `Refusals` and `ReportRanges` are for callers.
 mod Assembled
 mod Walking
 pub mod Refusals
-pub mod Ranges
+pub mod ReportRanges
 pub mod Examples

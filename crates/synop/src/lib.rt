@@ -1,5 +1,5 @@
 // A SYNOP report read: from the bytes of a text to the number that it is refused with, or to its station, day and hour and, unless
-// it is `NIL`, its head and its nine values.
+// it is `NIL`, its indicators and its nine values.
 ghost use mathlib.Core.Path.{_≡_};
 ghost use Rattle.synop_text.specs.Kinds.{tokens};
 ghost use Rattle.synop_checks.specs.Refusal as refusals;
@@ -58,13 +58,13 @@ fn values_in(kept: [Group; 13], rain: Group) -> Values
 fn content(p: Place, kept: [Group; 13]) -> Report
     ensures { λ r. ⌜ reports.meaning r ≡ reports.content p kept ⌝ }
 {
-    let heading = synop_contents::identification_of(kept[TIME], kept[STATION]);
+    let identification = synop_contents::identification_of(kept[TIME], kept[STATION]);
     if synop_order::is_nil(p) {
-        return Report::Nil(heading);
+        return Report::Nil(identification);
     }
     let rain = first_of(kept[RAIN], kept[LATER_RAIN]);
-    let head = synop_contents::indicators_of(kept[VISIBILITY], kept[WIND], rain);
-    Report::Whole(heading, head, values_in(kept, rain))
+    let indicators = synop_contents::indicators_of(kept[VISIBILITY], kept[WIND], rain);
+    Report::Whole(identification, indicators, values_in(kept, rain))
 }
 
 // What the groups that were walked are: the first check that fails, or the content.

@@ -1,2 +1,2 @@
 -- Laws of the code tables: the bounds that callers cite.
-pub mod Within
+pub mod CodeRanges

@@ -4,7 +4,7 @@ use mathlib.Core.List.{List, [], _∷_}
 use Prim.Native.Nat.{ℕ, _+_, _*_}
 use Rattle.synop_figures.specs.Digits.{digit, two, four, given}
 use Rattle.synop_figures.specs.Elements as elements
-use Rattle.synop_figures.specs.Heads as heads
+use Rattle.synop_figures.specs.Indicators as indicators
 use Rattle.synop_codes.specs.Value.{Value, meaning}
 use Rattle.synop_figures.specs.declared.Number.{Number}
 use Rattle.synop_text.specs.Kinds.{onFive}
@@ -45,10 +45,10 @@ identificationOf time station =
 unfoldable pub indicatorsOf : Group → Group → Group → Indicators
 indicatorsOf visibility wind rain =
     record {
-      «rain_indicator» = heads.rainIndicator (charactersOf visibility .a);
+      «rain_indicator» = indicators.rainIndicator (charactersOf visibility .a);
       «rain_sent» = isSent rain;
-      «rain_duration» = heads.rainDuration (charactersOf rain .b) (charactersOf rain .c) (charactersOf rain .d) (charactersOf rain .e);
-      «wind_direction» = heads.windDirection (charactersOf wind .b) (charactersOf wind .c);
+      «rain_duration» = indicators.rainDuration (charactersOf rain .b) (charactersOf rain .c) (charactersOf rain .d) (charactersOf rain .e);
+      «wind_direction» = indicators.windDirection (charactersOf wind .b) (charactersOf wind .c);
     }
 
 -- T, D, X, M of 1sTTT, 2sTTT

@@ -5,7 +5,7 @@ ghost use mathlib.Core.Path.{_≡_};
 ghost use Rattle.synop_codes.specs.Value.{meaning};
 ghost use Rattle.synop_figures.specs.Digits as digits;
 ghost use Rattle.synop_figures.specs.Elements as elements;
-ghost use Rattle.synop_figures.specs.Heads as heads;
+ghost use Rattle.synop_figures.specs.Indicators as indicators;
 use synop_codes::Value;
 use synop_codes::cloud_of;
 use synop_codes::direction_of;
@@ -143,7 +143,7 @@ pub fn rain(a: u8, b: u8, c: u8) -> Value
 // ---- a slot's head
 
 fn duration_of(t: u8) -> u8
-    ensures { λ r. ⌜ r ≡ heads.rainDurationOf t ⌝ }
+    ensures { λ r. ⌜ r ≡ indicators.rainDurationOf t ⌝ }
 {
     match digit(t) {
         Number::Slash => 0,
@@ -153,7 +153,7 @@ fn duration_of(t: u8) -> u8
 
 // tR, from RRRtR: 0 where it is `/` or R is missing.
 pub fn rain_duration(a: u8, b: u8, c: u8, t: u8) -> u8
-    ensures { λ r. ⌜ r ≡ heads.rainDuration a b c t ⌝ }
+    ensures { λ r. ⌜ r ≡ indicators.rainDuration a b c t ⌝ }
 {
     match rain(a, b, c) {
         Value::Missing => 0,
@@ -163,7 +163,7 @@ pub fn rain_duration(a: u8, b: u8, c: u8, t: u8) -> u8
 
 // iR: 0 to 4, else 5.
 pub fn rain_indicator(c: u8) -> u8
-    ensures { λ r. ⌜ r ≡ heads.rainIndicator c ⌝ }
+    ensures { λ r. ⌜ r ≡ indicators.rainIndicator c ⌝ }
 {
     match digit(c) {
         Number::Slash => 5,
@@ -173,7 +173,7 @@ pub fn rain_indicator(c: u8) -> u8
 
 // dd: 0 to 36 or 99, else 100.
 pub fn wind_direction(a: u8, b: u8) -> u8
-    ensures { λ r. ⌜ r ≡ heads.windDirection a b ⌝ }
+    ensures { λ r. ⌜ r ≡ indicators.windDirection a b ⌝ }
 {
     match two(a, b) {
         Number::Slash => 100,

@@ -1,4 +1,4 @@
--- `synop::content` meets its contract, by what is ensured of the heading, the head and the values.
+-- `synop::content` meets its contract, by what is ensured of the identification, the indicators and the values.
 -- Assumes nothing.
 use borrow.Author.Needs.{needs}
 use Rattle.synop.proofs.Assembled.{as-nil, as-whole}

@@ -10,7 +10,5 @@ use Rattle.synop_codes.proofs.below.Tie as tie
 pub below-spec : {M : Type 1} → statement M
 below-spec =
     tie.close
-    (tie.spec
-    (λ c. search needs)
-    (λ c. search needs)
+    (tie.spec (λ c. search needs) (λ c. search needs)
     (λ c. ap read (opposite 32768 (c .args .n) (search needs))))

@@ -10,8 +10,7 @@ pub direction-of-spec : {M : Type 1} → statement M
 unfolding windDirectionOf
 direction-of-spec =
     tie.close
-    (tie.spec
-    (λ c. search needs)
+    (tie.spec (λ c. search needs)
     (λ c. rw (c .match .keys1))
     (λ c. search (needs, tests))
     (λ c. search (needs, tests)))

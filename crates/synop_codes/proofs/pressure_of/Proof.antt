@@ -10,10 +10,7 @@ pub pressure-of-spec : {M : Type 1} → statement M
 unfolding pressureOf
 pressure-of-spec =
     tie.close
-    (tie.spec
-    (λ c. search needs)
-    (λ c κs. search needs)
-    (λ c κs. search needs)
+    (tie.spec (λ c. search needs) (λ c κs. search needs) (λ c κs. search needs)
     (λ c. rw (c .before .match .keys1) (c .above .ensures))
     (λ c. rw (c .before .match .keys2) (c .above2 .ensures))
     (λ c. search (tests, c .match .rest)))

@@ -10,11 +10,7 @@ pub rain-of-spec : {M : Type 1} → statement M
 unfolding rainOf
 rain-of-spec =
     tie.close
-    (tie.spec
-    (λ c κs. search needs)
-    (λ c. search needs)
-    (λ c κs. search needs)
-    (λ c κs. search needs)
+    (tie.spec (λ c κs. search needs) (λ c. search needs) (λ c κs. search needs) (λ c κs. search needs)
     (λ c. rw (c .match .keys1))
     (λ c. rw (c .before .match .keys2) (c .above .ensures))
     (λ c. search (needs, tests))

@@ -10,9 +10,7 @@ pub temperature-of-spec : {M : Type 1} → statement M
 unfolding temperatureOf
 temperature-of-spec =
     tie.close
-    (tie.spec
-    (λ c κs. search needs)
-    (λ c κs. search needs)
+    (tie.spec (λ c κs. search needs) (λ c κs. search needs)
     (λ c. rw (c .before .match .keys1) (c .above .ensures))
     (λ c. rw (c .before .match .keys2) (c .below .ensures))
     (λ c. search (tests, c .match .rest)))

@@ -10,14 +10,7 @@ pub visibility-of-spec : {M : Type 1} → statement M
 unfolding visibilityOf
 visibility-of-spec =
     tie.close
-    (tie.spec
-    (λ c κs. search needs)
-    (λ c κs. search needs)
-    (λ c. search needs)
-    (λ c. search needs)
-    (λ c κs. search needs)
-    (λ c. search needs)
-    (λ c. search needs)
+    (tie.spec (λ c κs. search needs) (λ c κs. search needs) (λ c. search needs) (λ c. search needs) (λ c κs. search needs) (λ c. search needs) (λ c. search needs)
     (λ c. search needs)
     (λ c κs. search needs)
     (λ c. rw (c .before .match .keys1) (c .above .ensures))

@@ -10,12 +10,5 @@ pub wind-of-spec : {M : Type 1} → statement M
 unfolding windOf
 wind-of-spec =
     tie.close
-    (tie.spec
-    (λ c. search needs)
-    (λ c κs. search needs)
-    (λ c. search (needs, tests))
-    (λ c. search needs)
-    (λ c. search needs)
-    (λ c κs. search needs)
-    (λ c. search (needs, tests))
+    (tie.spec (λ c. search needs) (λ c κs. search needs) (λ c. search (needs, tests)) (λ c. search needs) (λ c. search needs) (λ c κs. search needs) (λ c. search (needs, tests))
     (λ c. search (needs, tests)))

@@ -10,10 +10,6 @@ pub cloud-spec : {M : Type 1} → statement M
 unfolding cloud
 cloud-spec =
     tie.close
-    (tie.spec
-    (λ c κs. search needs)
-    (λ c. search needs)
-    (λ c. search needs)
-    (λ c κs. search needs)
+    (tie.spec (λ c κs. search needs) (λ c. search needs) (λ c. search needs) (λ c κs. search needs)
     (λ c. rw (sym (c .before .before .digit .ensures) ∙ c .enum-told .given .1))
     (λ c. rw (sym (c .before .before .before .before .digit .ensures) ∙ c .before .before .k .given .1) (c .cloud-of .ensures)))

@@ -8,8 +8,5 @@ use Rattle.synop_figures.proofs.digit.Tie as tie
 pub digit-spec : {M : Type 1} → statement M
 digit-spec =
     tie.close
-    (tie.spec
-    (λ c. search needs)
-    (λ c. search (needs, tests))
-    (λ c. search (needs, tests))
+    (tie.spec (λ c. search needs) (λ c. search (needs, tests)) (λ c. search (needs, tests))
     (λ c. search (needs, tests)))

@@ -12,9 +12,7 @@ pub four-spec : {M : Type 1} → statement M
 unfolding four
 four-spec =
     tie.close
-    (tie.spec
-    (λ c κs. search needs)
-    (λ c κs. search needs)
+    (tie.spec (λ c κs. search needs) (λ c κs. search needs)
     (λ c κs. (
       of-callee 1000 1000 (lit≤ tt) _ (three-below _ _ _) (c .before .three .ensures),
       of-callee 10 10 (lit≤ tt) (digit (c .before .before .args .d)) (digit-below (c .before .before .args .d)) (c .digit .ensures),

@@ -9,11 +9,7 @@ use Rattle.synop_figures.proofs.joined.Tie as tie
 pub joined-spec : {M : Type 1} → statement M
 joined-spec =
     tie.close
-    (tie.spec
-    (λ c. search needs)
-    (λ c. search needs)
-    (λ c. search needs)
-    (λ c. search needs)
+    (tie.spec (λ c. search needs) (λ c. search needs) (λ c. search needs) (λ c. search needs)
     (λ c. omega (arith, of-number 1000 (c .before .before .before .before .before .before .pre .0) (c .before .before .before .before .n .given .1)))
     (λ c. omega (
       arith,

@@ -11,10 +11,7 @@ pub pressure-spec : {M : Type 1} → statement M
 unfolding pressure
 pressure-spec =
     tie.close
-    (tie.spec
-    (λ c κs. search needs)
-    (λ c. search needs)
-    (λ c. search needs)
+    (tie.spec (λ c κs. search needs) (λ c. search needs) (λ c. search needs)
     (λ c κs. of-number 10000 (four-below _ _ _ _) (sym (c .before .before .before .four .ensures) ∙ c .before .n .given .1))
     (λ c. rw (sym (c .before .before .four .ensures) ∙ c .enum-told .given .1))
     (λ c. rw (sym (c .before .before .before .before .four .ensures) ∙ c .before .before .n .given .1) (c .pressure-of .ensures)))

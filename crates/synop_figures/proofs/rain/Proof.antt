@@ -11,10 +11,7 @@ pub rain-spec : {M : Type 1} → statement M
 unfolding rain
 rain-spec =
     tie.close
-    (tie.spec
-    (λ c κs. search needs)
-    (λ c. search needs)
-    (λ c. search needs)
+    (tie.spec (λ c κs. search needs) (λ c. search needs) (λ c. search needs)
     (λ c κs. of-number 1000 (three-below _ _ _) (sym (c .before .before .before .three .ensures) ∙ c .before .rrr .given .1))
     (λ c. rw (sym (c .before .before .three .ensures) ∙ c .enum-told .given .1))
     (λ c. rw (sym (c .before .before .before .before .three .ensures) ∙ c .before .before .rrr .given .1) (c .rain-of .ensures)))

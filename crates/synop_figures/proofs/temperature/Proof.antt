@@ -11,10 +11,7 @@ pub temperature-spec : {M : Type 1} → statement M
 unfolding temperature
 temperature-spec =
     tie.close
-    (tie.spec
-    (λ c κs. search needs)
-    (λ c. search needs)
-    (λ c. search needs)
+    (tie.spec (λ c κs. search needs) (λ c. search needs) (λ c. search needs)
     (λ c κs. of-number 1000 (three-below _ _ _) (sym (c .before .before .before .three .ensures) ∙ c .before .n .given .1))
     (λ c. rw (sym (c .before .before .three .ensures) ∙ c .enum-told .given .1))
     (λ c. rw (sym (c .before .before .before .before .three .ensures) ∙ c .before .before .n .given .1) (c .temperature-of .ensures)))

@@ -12,9 +12,7 @@ pub three-spec : {M : Type 1} → statement M
 unfolding three
 three-spec =
     tie.close
-    (tie.spec
-    (λ c κs. search needs)
-    (λ c κs. search needs)
+    (tie.spec (λ c κs. search needs) (λ c κs. search needs)
     (λ c κs. (
       of-callee 100 1000 (lit≤ tt) _ (two-below _ _) (c .before .two .ensures),
       of-callee 10 10 (lit≤ tt) (digit (c .before .before .args .c)) (digit-below (c .before .before .args .c)) (c .digit .ensures),

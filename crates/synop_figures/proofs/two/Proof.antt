@@ -12,9 +12,7 @@ pub two-spec : {M : Type 1} → statement M
 unfolding two
 two-spec =
     tie.close
-    (tie.spec
-    (λ c κs. search needs)
-    (λ c κs. search needs)
+    (tie.spec (λ c κs. search needs) (λ c κs. search needs)
     (λ c κs. (
       of-callee 10 1000 (lit≤ tt) (digit (c .before .before .args .a)) (digit-below (c .before .before .args .a)) (c .before .digit .ensures),
       of-callee 10 10 (lit≤ tt) (digit (c .before .before .args .b)) (digit-below (c .before .before .args .b)) (c .digit2 .ensures),

@@ -10,10 +10,6 @@ pub visibility-spec : {M : Type 1} → statement M
 unfolding visibility
 visibility-spec =
     tie.close
-    (tie.spec
-    (λ c κs. search needs)
-    (λ c. search needs)
-    (λ c. search needs)
-    (λ c κs. search needs)
+    (tie.spec (λ c κs. search needs) (λ c. search needs) (λ c. search needs) (λ c κs. search needs)
     (λ c. rw (sym (c .before .before .two .ensures) ∙ c .enum-told .given .1))
     (λ c. rw (sym (c .before .before .before .before .two .ensures) ∙ c .before .before .vv .given .1) (c .visibility-of .ensures)))

@@ -12,10 +12,7 @@ pub wind-ff-spec : {M : Type 1} → statement M
 unfolding windFf
 wind-ff-spec =
     tie.close
-    (tie.spec
-    (λ c κs. search needs)
-    (λ c. search needs)
-    (λ c. search needs)
+    (tie.spec (λ c κs. search needs) (λ c. search needs) (λ c. search needs)
     (λ c κs. omega (arith, of-number 100 (two-below _ _) (sym (c .before .before .before .two .ensures) ∙ c .before .k .given .1)))
     (λ c. rw (sym (c .before .before .two .ensures) ∙ c .enum-told .given .1))
     (λ c. rw (sym (c .before .before .before .before .two .ensures) ∙ c .before .before .k .given .1) (c .wind-of .ensures)))

@@ -1,19 +1,19 @@
--- What callers need of the groups' contents: whatever the groups are, the head and the values are in their ranges.
+-- What callers need of the groups' contents: whatever the groups are, the indicators and the values are in their ranges.
 -- Assumes nothing.
 use mathlib.Core.Path.{_≡_, refl}
 use mathlib.Core.List.{List, [], _∷_}
 use Prim.Native.Nat.{_≤_}
 use lib.ListN.{length}
 use Rattle.synop_codes.specs.Value.{Value, Within}
-use Rattle.synop_codes.proofs.Within.{Direction}
-use Rattle.synop_figures.proofs.Within as bounds
+use Rattle.synop_codes.proofs.CodeRanges.{Direction}
+use Rattle.synop_figures.proofs.FigureRanges as bounds
 use Rattle.synop_text.specs.declared.Group.{Group}
 use Rattle.synop_text.specs.declared.Group.the-variants.{Other, Aaxx, Nil, Section, Five}
 use Rattle.synop_contents.specs.Contents.{charactersOf, indicatorsOf, temperatureOf, pressureOf, cloudOf, visibilityOf, rainOf, ffOf, windOf, valuesOf}
 use Rattle.synop_contents.specs.declared.Indicators.{Indicators}
 
 -- iR 0 to 5, tR 0 to 9, dd 0 to 36, 99 or 100
-pub record Headed (d : Indicators) : Type 0 where
+pub record IndicatorsFit (d : Indicators) : Type 0 where
   pub indicator : d .«rain_indicator» ≤ 5
   pub duration : d .«rain_duration» ≤ 9
   pub direction : Direction (d .«wind_direction»)
@@ -23,14 +23,14 @@ abbrev pub AllWithin : List Value → Type 0
 AllWithin [] = Unit {0}
 AllWithin (v ∷ vs) = Within v × AllWithin vs
 
-pub record Valued (vs : List Value) : Type 0 where
+pub record ValuesFit (vs : List Value) : Type 0 where
   pub nine : length vs ≡ 9
   pub each : AllWithin vs
 
 -- ---- of any groups
-pub headed : (visibility wind rain : Group) → Headed (indicatorsOf visibility wind rain)
+pub indicators-fit : (visibility wind rain : Group) → IndicatorsFit (indicatorsOf visibility wind rain)
 unfolding indicatorsOf
-headed visibility wind rain =
+indicators-fit visibility wind rain =
     let v = charactersOf visibility in
     let w = charactersOf wind in
     let x = charactersOf rain in
@@ -72,10 +72,10 @@ wind-within time wind Nil = ff-within time wind
 wind-within time wind (Section m) = ff-within time wind
 wind-within time wind (Five a b c d e) = bounds.windFff-within (charactersOf time .e) c d e
 
-pub valued : (time visibility wind gale temperature dewPoint pressure rain maximum minimum : Group)
-    → Valued (valuesOf time visibility wind gale temperature dewPoint pressure rain maximum minimum)
+pub values-fit : (time visibility wind gale temperature dewPoint pressure rain maximum minimum : Group)
+    → ValuesFit (valuesOf time visibility wind gale temperature dewPoint pressure rain maximum minimum)
 unfolding valuesOf
-valued time visibility wind gale temperature dewPoint pressure rain maximum minimum =
+values-fit time visibility wind gale temperature dewPoint pressure rain maximum minimum =
     record {
       nine = refl;
       each = (

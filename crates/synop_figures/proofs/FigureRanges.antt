@@ -6,12 +6,12 @@ use Prim.Native.Nat.{ℕ, _<_, _≤_}
 use native.Mathlib.Omega.{arith}
 use lib.Dec.{lit≤}
 use Rattle.synop_codes.specs.Value.{Value, missing, read, Within}
-use Rattle.synop_codes.proofs.Within.{temperatureOf-within, pressureOf-within, windOf-within, cloudOf-within, visibilityOf-within, rainOf-within, rainIndicatorOf-range, Direction, windDirectionOf-range}
+use Rattle.synop_codes.proofs.CodeRanges.{temperatureOf-within, pressureOf-within, windOf-within, cloudOf-within, visibilityOf-within, rainOf-within, rainIndicatorOf-range, Direction, windDirectionOf-range}
 use Rattle.synop_figures.specs.declared.Number.{Number}
 use Rattle.synop_figures.specs.declared.Number.the-variants.{Slash, Digits}
 use Rattle.synop_figures.specs.Digits.{Below, digit, two, three, four, given}
 use Rattle.synop_figures.specs.Elements.{temperature, pressure, windFf, windFff, cloud, visibility, rain}
-use Rattle.synop_figures.specs.Heads.{rainIndicator, windDirection, rainDuration, rainDurationOf, kept}
+use Rattle.synop_figures.specs.Indicators.{rainIndicator, windDirection, rainDuration, rainDurationOf, kept}
 use Rattle.synop_figures.proofs.Numbers.{digit-below, two-below, three-below, four-below}
 
 -- what holds of d, and of f at each number below k, holds of the value that m gives

@@ -1,4 +1,4 @@
--- What callers need of a text: whatever it is, its number, its heading, its head and its values are in their ranges.
+-- What callers need of a text: whatever it is, its number, its identification, its indicators and its values are in their ranges.
 -- Assumes nothing.
 use mathlib.Core.Path.{_≡_, refl, sym, subst}
 use mathlib.Core.Bool.{Bool, true, false, cond, _&&_}
@@ -30,7 +30,7 @@ use Rattle.synop_contents.specs.Parts as parts
 use Rattle.synop_contents.specs.Parts.{first}
 use Rattle.synop_contents.specs.Contents.{charactersOf, numberOf, twoOf, stationOf, identificationOf}
 use Rattle.synop_contents.proofs.Numbers.{number-below}
-use Rattle.synop_contents.proofs.Ranges.{Headed, Valued, headed, valued}
+use Rattle.synop_contents.proofs.ContentRanges.{IndicatorsFit, ValuesFit, indicators-fit, values-fit}
 use Rattle.synop.specs.Report.{Report, refused, nil, whole, part, rainGroup, valuesIn, content, read, report}
 use Rattle.synop_contents.specs.declared.Identification.{Identification}
 
@@ -47,7 +47,7 @@ pub record Named (h : Identification) : Type 0 where
 abbrev pub InRange : Report → Type 0
 InRange (refused n) = (1 ≤ n) × (n ≤ 5)
 InRange (nil h) = Named h
-InRange (whole h d vs) = Named h × Headed d × Valued vs
+InRange (whole h d vs) = Named h × IndicatorsFit d × ValuesFit vs
 
 -- ---- the heading, of groups that pass checks 3, 4 and 5
 apart : {A : Type 0} → false ≡ true → A
@@ -182,8 +182,8 @@ content-in-range gs p b =
     by-cond InRange (places.isNil p) (λ _. heading-named gs b)
     (λ _. (
       heading-named gs b,
-      headed (group parts.visibility) (group parts.wind) (rainGroup kept),
-      valued (group parts.time) (group parts.visibility) (group parts.wind) (group parts.gale) (group parts.temperature) (group parts.dewPoint) (group parts.pressure) (rainGroup kept)
+      indicators-fit (group parts.visibility) (group parts.wind) (rainGroup kept),
+      values-fit (group parts.time) (group parts.visibility) (group parts.wind) (group parts.gale) (group parts.temperature) (group parts.dewPoint) (group parts.pressure) (rainGroup kept)
           (group parts.maximum)
           (group parts.minimum),
     ))
