@@ -25,34 +25,34 @@ use Rattle.synop_checks.specs.Ranges.{ranged, rangedFrom, check4}
 use Rattle.synop_checks.specs.Refusal.{ofGroups}
 use Rattle.synop_order.specs.declared.Place.{Place}
 use Rattle.synop_order.specs.declared.Place.the-variants.{Start}
-use Rattle.synop_contents.specs.Parts.{partOf, firstOf, first, parts}
+use Rattle.synop_contents.specs.Parts.{count, partOf, firstOf, first, parts}
 use Rattle.synop.specs.Report.{Report, refused, content, read, answered}
 use Rattle.synop_contents.proofs.PartLaws.{part-below, first-assoc, first-none}
 
 -- the groups before `at` have their shapes; p is the place of the last of them, `good` says whether all are in range, and `kept`
 -- has the parts among them
 pub record Walked (s : List ℕ) (kept : List Group) (p : Place) (good : Bool) (at : ℕ) : Type 0 where
-  pub long : length kept ≡ 13
+  pub long : length kept ≡ count
   pub upto : at ≤ length s
   pub shape : check3 (tokens s) ≡ shapedFrom p (tokens (drop at s))
   pub range : check4 (tokens s) ≡ (good && rangedFrom p (tokens (drop at s)))
   pub place : final Start (tokens s) ≡ final p (tokens (drop at s))
-  pub each : (k : ℕ) → k < 13 → first k Start (tokens s) ≡ firstOf (getD kept k Other) (first k p (tokens (drop at s)))
+  pub each : (k : ℕ) → k < count → first k Start (tokens s) ≡ firstOf (getD kept k Other) (first k p (tokens (drop at s)))
 
-pub none : (s : List ℕ) → Walked s (replicate 13 Other) Start true 0
+pub none : (s : List ℕ) → Walked s (replicate count Other) Start true 0
 none s =
     record {
-      long = length-replicate 13 Other;
+      long = length-replicate count Other;
       upto = omega arith;
       shape = refl;
       range = refl;
       place = refl;
-      each = λ k h. rw (getD-replicate 13 k Other Other h);
+      each = λ k h. rw (getD-replicate count k Other Other h);
     }
 
 module _ {s : List ℕ} {kept : List Group} {p : Place} {good : Bool} {at : ℕ} (w : Walked s kept p good at) where
   -- the group's number is k, and x is what is kept under it
-  taken : {g : Group} {to k : ℕ} {x : Group} → Kind s at g to → shaped p g ≡ true → k < 13 → k ≡ partOf (next p g) g → x ≡ firstOf (getD kept k Other) g
+  taken : {g : Group} {to k : ℕ} {x : Group} → Kind s at g to → shaped p g ≡ true → k < count → k ≡ partOf (next p g) g → x ≡ firstOf (getD kept k Other) g
       → Walked s (set kept k x) (next p g) (good && ranged p g) to
   unfolding shapedFrom rangedFrom final first
   taken {g} {to} {k} {x} step ok below ek ex =
@@ -85,7 +85,7 @@ module _ {s : List ℕ} {kept : List Group} {p : Place} {good : Bool} {at : ℕ}
       → x ≡ firstOf (getD kept k Other) g → Walked s (set kept k x) q (good && r) to
   more {g} {to} {k} {x} {t} {r} {q} step et ok er eq ek ex =
       let number : k ≡ partOf (next p g) g = ek ∙ ap (λ (a : Place). partOf a g) eq in
-      rw (eq, er) (taken step (via et ok) (subst (λ (n : ℕ). n < 13) (sym number) (part-below (next p g) g)) number ex)
+      rw (eq, er) (taken step (via et ok) (subst (λ (n : ℕ). n < count) (sym number) (part-below (next p g) g)) number ex)
 
   pub stop : {g : Group} {to : ℕ} {t : Bool} → Kind s at g to → t ≡ shaped p g → t ≡ false → answered p false good kept ≡ read (ofGroups (tokens s)) (tokens s)
   unfolding shapedFrom ofGroups read answered
@@ -106,7 +106,7 @@ module _ {s : List ℕ} {kept : List Group} {p : Place} {good : Bool} {at : ℕ}
 
       whole : kept ≡ parts (tokens s)
       whole =
-          is-table 13 (λ k. first k Start (tokens s)) kept Other (w .long)
+          is-table count (λ k. first k Start (tokens s)) kept Other (w .long)
           (λ k h. sym (w .each k h ∙ ap (λ (gs : List Group). firstOf (getD kept k Other) (first k p gs)) e ∙ first-none (getD kept k Other)))
 
       settled : (b r m : Bool) (x : Report) →

@@ -13,6 +13,7 @@ use synop_contents::parts::GALE;
 use synop_contents::parts::LATER_RAIN;
 use synop_contents::parts::MAXIMUM;
 use synop_contents::parts::MINIMUM;
+use synop_contents::parts::PARTS;
 use synop_contents::parts::PRESSURE;
 use synop_contents::parts::RAIN;
 use synop_contents::parts::STATION;
@@ -37,7 +38,7 @@ pub enum Report {
 // ---- what the parts hold
 
 // The nine values, where rain is read from the group `rain`.
-fn values_in(kept: [Group; 13], rain: Group) -> Values
+fn values_in(kept: [Group; PARTS], rain: Group) -> Values
     ensures { λ r. ⌜ listed r ≡ reports.valuesIn kept rain ⌝ }
 {
     synop_contents::values_of(
@@ -55,7 +56,7 @@ fn values_in(kept: [Group; 13], rain: Group) -> Values
 }
 
 // A report that passes, by the place of its last group and its parts.
-fn content(p: Place, kept: [Group; 13]) -> Report
+fn content(p: Place, kept: [Group; PARTS]) -> Report
     ensures { λ r. ⌜ reports.meaning r ≡ reports.content p kept ⌝ }
 {
     let identification = synop_contents::identification_of(kept[TIME], kept[STATION]);
@@ -68,7 +69,7 @@ fn content(p: Place, kept: [Group; 13]) -> Report
 }
 
 // What the groups that were walked are: the first check that fails, or the content.
-fn answer(p: Place, shaped: bool, ranged: bool, kept: [Group; 13]) -> Report
+fn answer(p: Place, shaped: bool, ranged: bool, kept: [Group; PARTS]) -> Report
     ensures { λ r. ⌜ reports.meaning r ≡ reports.answered p shaped ranged kept ⌝ }
 {
     let shape = shaped & synop_order::begun(p);
@@ -90,7 +91,7 @@ fn answer(p: Place, shaped: bool, ranged: bool, kept: [Group; 13]) -> Report
 fn walk(text: &[u8]) -> Report
     ensures { λ r. ⌜ reports.meaning r ≡ reports.read (refusals.ofGroups (tokens (now (text .entry)))) (tokens (now (text .entry))) ⌝ }
 {
-    let mut kept = [Group::Other; 13];
+    let mut kept = [Group::Other; PARTS];
     let mut place = Place::Start;
     let mut ranged = true;
     let mut c = Cursor::new();

@@ -1,4 +1,4 @@
--- Laws of the parts: their numbers are below 13, and the first of three is the first of the first two and the third.
+-- Laws of the parts: their numbers are below their count, and the first of three is the first of the first two and the third.
 -- Assumes nothing.
 use mathlib.Core.Path.{_≡_, refl}
 use mathlib.Core.Bool.{Bool, true, false, not, cond, _&&_}
@@ -8,32 +8,32 @@ use Rattle.synop_text.specs.declared.Group.{Group}
 use Rattle.synop_text.specs.declared.Group.the-variants.{Other, Aaxx, Nil, Section, Five}
 use Rattle.synop_order.specs.declared.Place.{Place}
 use Rattle.synop_order.specs.declared.Place.the-variants.{Start, Letters, Time, Station, Nothing, Visibility, Wind, Gale, One, Later, Wrong}
-use Rattle.synop_contents.specs.Parts.{ofOne, ofThree, inThree, ofLater, partOf, firstOf}
+use Rattle.synop_contents.specs.Parts.{count, ofOne, ofThree, inThree, ofLater, partOf, firstOf}
 
-either : (b : Bool) {m n : ℕ} → m < 13 → n < 13 → cond b m n < 13
+either : (b : Bool) {m n : ℕ} → m < count → n < count → cond b m n < count
 either true h l = h
 either false h l = l
 
-one-below : (d : ℕ) → ofOne d < 13
+one-below : (d : ℕ) → ofOne d < count
 unfolding ofOne
 one-below d = either (eqb d 49) (lit< tt) (either (eqb d 50) (lit< tt) (either (eqb d 52) (lit< tt) (either (eqb d 54) (lit< tt) (lit< tt))))
 
-three-below : (a : ℕ) → ofThree a < 13
+three-below : (a : ℕ) → ofThree a < count
 unfolding ofThree
 three-below a = either (eqb a 49) (lit< tt) (either (eqb a 50) (lit< tt) (either (eqb a 54) (lit< tt) (lit< tt)))
 
-in-three-below : (g : Group) → inThree g < 13
+in-three-below : (g : Group) → inThree g < count
 in-three-below Other = lit< tt
 in-three-below Aaxx = lit< tt
 in-three-below Nil = lit< tt
 in-three-below (Section m) = lit< tt
 in-three-below (Five a b c d e) = three-below a
 
-later-below : (n : ℕ) (run : Bool) (g : Group) → ofLater n run g < 13
+later-below : (n : ℕ) (run : Bool) (g : Group) → ofLater n run g < count
 unfolding ofLater
 later-below n run g = either (eqb n 3 && not run) (in-three-below g) (lit< tt)
 
-pub part-below : (p : Place) (g : Group) → partOf p g < 13
+pub part-below : (p : Place) (g : Group) → partOf p g < count
 part-below Start g = lit< tt
 part-below Letters g = lit< tt
 part-below Time g = lit< tt

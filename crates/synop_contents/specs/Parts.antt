@@ -56,6 +56,10 @@ laterRain = 11
 abbrev pub unread : ℕ
 unread = 12
 
+-- how many they are
+abbrev pub count : ℕ
+count = 13
+
 -- ---- the part that a group is
 -- section 1, by its first digit
 unfoldable pub ofOne : ℕ → ℕ
@@ -110,4 +114,4 @@ first k p (g ∷ gs) = firstOf (cond (eqb (partOf (next p g) g) k) g Other) (fir
 
 -- the parts of a report
 unfoldable pub parts : List Group → List Group
-parts gs = table 13 (λ k. first k Start gs)
+parts gs = table count (λ k. first k Start gs)

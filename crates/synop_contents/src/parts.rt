@@ -31,6 +31,9 @@ pub const LATER_RAIN: usize = 11;
 
 pub const UNREAD: usize = 12;
 
+// How many they are.
+pub const PARTS: usize = 13;
+
 // The first of two groups, `Other` standing for none.
 pub fn first_of(g: Group, h: Group) -> Group
     ensures { λ r. ⌜ r ≡ parts.firstOf g h ⌝ }

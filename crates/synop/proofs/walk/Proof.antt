@@ -8,6 +8,7 @@ use native.Mathlib.Omega.{arith}
 use lib.ListN.{length}
 use denote.Ref.{now}
 use Rattle.synop_text.specs.Walk.{Kind}
+use Rattle.synop_contents.specs.Parts.{count}
 use Rattle.synop_contents.proofs.PartLaws.{part-below}
 use Rattle.synop.proofs.Walking.{Walked, none, more, stop, past}
 use Rattle.synop.proofs.walk.Statement.{statement}
@@ -26,7 +27,7 @@ kind : (c : tie.After-known-told Inv-loop μ-loop) →
 kind c = rw (c .before .g .given .1) at (c .before .before .before .take .ensures)
 
 -- the number of its part
-below : (c : tie.After-part-of Inv-loop μ-loop) → c .part-of .result < 13
+below : (c : tie.After-part-of Inv-loop μ-loop) → c .part-of .result < count
 below c = rw (c .part-of .ensures) (part-below (c .before .next .result) (c .before .before .before .before .before .before .g .given .0 .0))
 
 pub walk-spec : {M : Type 1} → statement M
