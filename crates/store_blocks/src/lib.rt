@@ -7,13 +7,11 @@ ghost use Rattle.store_layout.specs.Layout.{blockLength, blockAt, headLength, c
 ghost use Rattle.store_layout.specs.Sound.{soundHead, soundCell, soundBlock};
 use store_fields::is_cell;
 use store_fields::is_head;
-use store_numbers::at::BLOCK_LENGTH;
 use store_numbers::at::CELL_LENGTH;
 use store_numbers::at::CHECKED_FROM;
-use store_numbers::at::ENTRY_LENGTH;
 use store_numbers::at::HEAD_LENGTH;
-use store_numbers::at::HEADER_LENGTH;
 use store_numbers::at::RAW_FROM;
+use store_numbers::at::block_at;
 use store_numbers::read::word_at;
 
 fn is_head_at(store: &[u8], at: usize) -> bool
@@ -91,7 +89,7 @@ pub fn are_blocks(store: &[u8], n: usize) -> bool
     ensures { λ r. ⌜ r ≡ all (λ i. soundBlock (now (store .entry)) (blockAt n i)) n ⌝ }
 {
     for i in 0..n {
-        if !is_block(store, HEADER_LENGTH + ENTRY_LENGTH * n + BLOCK_LENGTH * i) {
+        if !is_block(store, block_at(n, i)) {
             return false;
         }
     }
