@@ -11,6 +11,7 @@ use store_numbers::at::CELL_LENGTH;
 use store_numbers::at::CHECKED_FROM;
 use store_numbers::at::HEAD_LENGTH;
 use store_numbers::at::RAW_FROM;
+use store_numbers::at::SLOT_LENGTH;
 use store_numbers::at::block_at;
 use store_numbers::read::word_at;
 
@@ -49,7 +50,7 @@ fn is_cell_at(store: &[u8], at: usize, states: u8, flags: u8) -> bool
 
 // The nine raw or checked cells of a slot from a position on.
 fn are_nine(store: &[u8], at: usize, states: u8, flags: u8) -> bool
-    requires { ⌜ at + 36 ≤ length (now store) ⌝ }
+    requires { ⌜ at + cellLength * 9 ≤ length (now store) ⌝ }
     ensures { λ r. ⌜ r ≡ all (λ e. soundCell states flags (now (store .entry)) (at + cellLength * e)) 9 ⌝ }
 {
     for e in 0..9 {
@@ -66,7 +67,7 @@ fn are_cells(store: &[u8], at: usize, states: u8, flags: u8) -> bool
     ensures { λ r. ⌜ r ≡ all (λ j. soundCell states flags (now (store .entry)) (at + cellLength * j)) 81 ⌝ }
 {
     for k in 0..9 {
-        if !are_nine(store, at + 36 * k, states, flags) {
+        if !are_nine(store, at + SLOT_LENGTH * k, states, flags) {
             return false;
         }
     }

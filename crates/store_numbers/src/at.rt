@@ -30,21 +30,25 @@ pub const ROW_IN: usize = 4;
 
 pub const SETTLED_IN: usize = 6;
 
-// A station's block: nine slot heads, then 81 raw and 81 checked cells.
+// A station's block: nine slot heads, then the raw and the checked cells, in each nine slots of nine cells.
 pub const HEAD_LENGTH: usize = 4;
 
 pub const CELL_LENGTH: usize = 4;
 
+pub const SLOT_LENGTH: usize = CELL_LENGTH * 9;
+
 pub const RAW_FROM: usize = HEAD_LENGTH * 9;
 
-pub const CHECKED_FROM: usize = RAW_FROM + CELL_LENGTH * 81;
+pub const CHECKED_FROM: usize = RAW_FROM + SLOT_LENGTH * 9;
 
-pub const BLOCK_LENGTH: usize = CHECKED_FROM + CELL_LENGTH * 81;
+pub const BLOCK_LENGTH: usize = CHECKED_FROM + SLOT_LENGTH * 9;
 
-// The largest store: 32 stations.
+// What a station adds to a store's length, how many there may be, and the length of the longest store.
+pub const STATION_LENGTH: usize = ENTRY_LENGTH + BLOCK_LENGTH;
+
 pub const MOST_STATIONS: usize = 32;
 
-pub const LONGEST_STORE: usize = HEADER_LENGTH + (ENTRY_LENGTH + BLOCK_LENGTH) * MOST_STATIONS;
+pub const LONGEST_STORE: usize = HEADER_LENGTH + STATION_LENGTH * MOST_STATIONS;
 
 // Where the entry of the station at index i begins.
 pub fn entry_at(i: usize) -> usize
