@@ -4,10 +4,10 @@ use mathlib.Core.Path.{_≡_, refl, sym, _∙_, ap}
 use mathlib.Core.List.{List, [], _∷_, map}
 use Prim.Native.Nat.{ℕ, zero, suc, _<_}
 use native.Mathlib.Nat.{not-suc-le-zero, le-of-suc-le-suc}
-use lib.ListN.{length, getD, set, length-map}
+use lib.ListN.{length, getD, set}
 use lib.Seq.{set-getD, set-set, getD-set-same}
 use Rattle.laws.specs.Table.{table}
-use Rattle.laws.proofs.Tables.{getD-table, is-table, length-table}
+use Rattle.laws.proofs.Tables.{getD-table, length-table}
 use Rattle.quality.specs.Cell.{Cell, none, slot}
 use Rattle.quality.specs.Elements.{column}
 use Rattle.quality.specs.declared.head.SlotHead.{SlotHead}
@@ -66,12 +66,12 @@ map-at f [] k d d′ h = absurd (not-suc-le-zero h)
 map-at f (x ∷ xs) zero d d′ h = refl
 map-at f (x ∷ xs) (suc k) d d′ h = map-at f xs k d d′ (le-of-suc-le-suc h)
 
-pub map-entries : {A B : Type 0} (f : A → B) (l : List A) (d : A) (n : ℕ) → length l ≡ n → table n (λ k. f (getD l k d)) ≡ map f l
-map-entries f l d n e =
-    sym (is-table n (λ k. f (getD l k d)) (map f l) (f d) (length-map l f ∙ e) (λ k m. map-at f l k d (f d) (rw e m)))
+pub map-table : {A B : Type 0} (f : A → B) (n : ℕ) (g : ℕ → A) → map f (table n g) ≡ table n (λ k. f (g k))
+unfolding table
+map-table f zero g = refl
+map-table {B = B} f (suc n) g = ap (λ (zs : List B). f (g zero) ∷ zs) (map-table f n (λ k. g (suc k)))
 
 -- ---- a field of each slot head
-pub each-head : (f : SlotHead → ℕ) (b : List ℕ) (hs : List SlotHead) (d : SlotHead) → hs ≡ decodeBlock b .heads
-    → table 9 (λ k. f (getD hs k d)) ≡ map f (decodeBlock b .heads)
+pub each-head : (f : SlotHead → ℕ) (b : List ℕ) → table 9 (λ k. f (decodeHead b (headAt k))) ≡ map f (decodeBlock b .heads)
 unfolding decodeBlock
-each-head f b hs d e = map-entries f hs d 9 (ap length e ∙ length-table 9 (λ k. decodeHead b (headAt k))) ∙ ap (map f) e
+each-head f b = sym (map-table f 9 (λ k. decodeHead b (headAt k)))

@@ -119,10 +119,9 @@ pub fn directions(block: &[u8]) -> [u8; 9]
     requires { ⌜ length (now block) ≡ blockLength ⌝ }
     ensures { λ r. ⌜ r ≡ directionsOf (decodeBlock (now (block .entry))) ⌝ }
 {
-    let heads = heads_of(block);
     let mut r = [0; 9];
     for k in 0..9 {
-        r[k] = heads[k].dd;
+        r[k] = head_at(block, HEAD_LENGTH * k).dd;
     }
     r
 }
@@ -132,10 +131,9 @@ pub fn durations(block: &[u8]) -> [u8; 9]
     requires { ⌜ length (now block) ≡ blockLength ⌝ }
     ensures { λ r. ⌜ r ≡ durationsOf (decodeBlock (now (block .entry))) ⌝ }
 {
-    let heads = heads_of(block);
     let mut r = [0; 9];
     for k in 0..9 {
-        r[k] = heads[k].tr;
+        r[k] = head_at(block, HEAD_LENGTH * k).tr;
     }
     r
 }

@@ -1,30 +1,22 @@
--- `store_block::block::directions` meets its contract. The loop's invariant: the directions taken so far.
+-- `store_block::block::directions` meets its contract. The loop's invariant: the directions read so far.
 -- Assumes nothing.
-use mathlib.Core.Path.{refl, _∙_}
-use mathlib.Core.List.{[]}
+use mathlib.Core.Path.{refl, _∙_, ap}
 use Prim.Native.Nat.{_-_}
 use borrow.Author.Needs.{needs}
-use denote.Ref.{now}
-use lib.ListN.{getD}
 use Rattle.laws.proofs.Fill.{Done, none, more, whole}
 use Rattle.quality.specs.declared.head.SlotHead.{SlotHead}
-use Rattle.store_layout.specs.Layout.{decodeHead}
+use Rattle.store_layout.specs.Layout.{headAt, decodeHead}
 use Rattle.store_block.proofs.Sheets.{each-head}
 use Rattle.store_block.proofs.block.directions.Statement.{statement}
 use Rattle.store_block.proofs.block.directions.Tie as tie
 
 abbrev Inv-loop : tie.InvT-loop
-Inv-loop block heads r₀ k₀ r k = Done (λ j. getD heads j (decodeHead [] 0) .dd) 0 9 r k
-
-returns : tie.Need-returns Inv-loop (λ block heads r₀ k₀ r k. 9 - k)
-returns c =
-    let h = c .before .before .heads-of in
-    whole (c .before .loop .inv) (search needs) ∙ each-head (λ (x : SlotHead). x .dd) (now (c .before .before .before .before .args .block)) (h .result) _ (h .ensures)
+Inv-loop block r₀ k₀ r k = Done (λ j. decodeHead block (headAt j) .dd) 0 9 r k
 
 pub directions-spec : {M : Type 1} → statement M
-unfolding decodeHead
 directions-spec =
     tie.close
-    (tie.spec Inv-loop (λ block heads r₀ k₀ r k. 9 - k) (λ c κs. search needs) (λ c. none _ _ 9 _ refl)
-    (λ c. search needs) (λ c. search needs) (λ c. search needs) (λ c. search needs) (λ c. search needs)
-    (λ c. more _ (c .before .loop .inv) (search needs) refl) returns)
+    (tie.spec Inv-loop (λ block r₀ k₀ r k. 9 - k) (λ c. none _ _ 9 _ refl)
+    (λ c. search needs) (λ c κs. search needs) (λ c. search needs) (λ c. search needs) (λ c. search needs)
+    (λ c. more _ (c .before .before .loop .inv) (search needs) (ap (λ (h : SlotHead). h .dd) (c .head-at .ensures)))
+    (λ c. whole (c .before .loop .inv) (search needs) ∙ each-head (λ (h : SlotHead). h .dd) _))
