@@ -1,9 +1,10 @@
 // Reads a day's reports from standard input and prints the day line of each station. The first line has year, month and day, then a
 // number and a climate row for each station; each report after it is cut after its `=`. The input may be of any length: it is read in
 // pieces. All is printed at the end, so that an input which cannot be read to its end prints no day line.
-ghost use Prim.Native.Nat.{_+_, _*_, _≤_};
+ghost use Prim.Native.Nat.{_≤_};
 ghost use mathlib.Core.Path.{_≡_};
 ghost use lib.ListN.{length};
+ghost use Rattle.store_layout.specs.Layout.{storeLength};
 ghost use Rattle.dayline_filing.specs.Filing.{Room};
 ghost use Rattle.dayline_input.specs.Input.{Placed};
 use dayline_filing::Progress;
@@ -17,6 +18,8 @@ use dayline_input::read;
 use dayline_print::refused_text;
 use dayline_text::first_line::Opening;
 use dayline_text::first_line::opened;
+use store_numbers::at::LONGEST_STORE;
+use store_numbers::at::store_length;
 
 // ---- the input
 
@@ -117,17 +120,17 @@ fn run_day(store: &mut [u8], piece: &mut [u8], from: usize, got: usize, stations
 }
 
 // Room for a store of 32 stations.
-fn store_space() -> [u8; 22160]
-    ensures { λ r. ⌜ 22160 ≡ length r ⌝ }
+fn store_space() -> [u8; LONGEST_STORE]
+    ensures { λ r. ⌜ storeLength 32 ≡ length r ⌝ }
 {
-    [0; 22160]
+    [0; LONGEST_STORE]
 }
 
 // The day of the stations that the first line names.
 fn run(store: &mut [u8], piece: &mut [u8], from: usize, got: usize, o: Opening) -> bool
     requires { ⌜ Placed (now piece) from got ⌝ }
     requires { ⌜ o .count ≤ 32 ⌝ }
-    requires { ⌜ length (now store) ≡ 16 + 692 * o .count ⌝ }
+    requires { ⌜ length (now store) ≡ storeLength (o .count) ⌝ }
 {
     if !open(store, o) {
         return refuse();
@@ -145,7 +148,7 @@ fn whole(piece: &mut [u8]) -> bool {
     }
     let l = start.line;
     let o = opened(l);
-    let size = 16 + 692 * o.count;
+    let size = store_length(o.count);
     let mut store = store_space();
     run(&mut store[..size], piece, start.from, start.got, o)
 }

@@ -19,6 +19,7 @@ use calendar::Slot;
 use engine_answers::Reply;
 use quality::column::OffsetCell;
 use quality::head::SlotHead;
+use store_numbers::at::BLOCK_LENGTH;
 use store_soundness::find::Located;
 use synop_codes::Value;
 use synop_contents::Identification;
@@ -88,13 +89,13 @@ fn file_at(store: &mut [u8], index: usize, k: usize, head: Indicators, values: V
     requires { ⌜ Good (now store) × (index < word (now store) countAt) × (k < 9) ⌝ }
     ensures { λ r. ⌜ Did (after (fileAt k head (listed values) (stationAt (decode (now (store .entry)) .stations) index)) index (decode (now (store .entry))) (now (store .entry))) (reply r) (now (store .exit)) ⌝ }
 {
-    let a = store_entries::block_at(store, index);
-    let b = a + 684;
+    let a = store_entries::block_start(store, index);
+    let b = a + BLOCK_LENGTH;
     if store_block::block::is_filed(&store[a..b], k) {
         return Reply::Refused(8);
     }
     put_report(&mut store[a..b], k, head, values);
-    store_entries::set_settled(store, index, false);
+    store_entries::set_settled(store, index, 0);
     Reply::Accepted
 }
 

@@ -14,8 +14,9 @@ use store_block::block::Area;
 use store_block::block::cell_of;
 use store_block::block::durations;
 use store_block::block::sheet_of;
-use store_entries::block_at;
+use store_entries::block_start;
 use store_entries::is_settled;
+use store_numbers::at::BLOCK_LENGTH;
 
 // One checked cell of the station at an index.
 pub fn give_cell(store: &[u8], index: usize, element: u32, slot: u32) -> CellReply
@@ -29,8 +30,8 @@ pub fn give_cell(store: &[u8], index: usize, element: u32, slot: u32) -> CellRep
     if !is_settled(store, index) {
         return CellReply::Refused(11);
     }
-    let a = block_at(store, index);
-    let b = a + 684;
+    let a = block_start(store, index);
+    let b = a + BLOCK_LENGTH;
     let d = cell_of(&store[a..b], Area::Checked, element as usize, slot as usize);
     CellReply::Cell(Cell {
         state: d.state,
@@ -47,8 +48,8 @@ pub fn give_day(store: &[u8], index: usize) -> DayReply
     if !is_settled(store, index) {
         return DayReply::Refused(11);
     }
-    let a = block_at(store, index);
-    let b = a + 684;
+    let a = block_start(store, index);
+    let b = a + BLOCK_LENGTH;
     let checked = sheet_of(&store[a..b], Area::Checked);
     let tr = durations(&store[a..b]);
     DayReply::Line(daily_line::day_line(checked, tr))

@@ -14,10 +14,11 @@ use store_block::block::Area;
 use store_block::block::directions;
 use store_block::block::put_sheet;
 use store_block::block::sheet_of;
-use store_entries::block_at;
+use store_entries::block_start;
 use store_entries::date_of;
 use store_entries::row_of;
 use store_entries::set_settled;
+use store_numbers::at::BLOCK_LENGTH;
 
 // The checked cells of a block from its raw ones.
 fn settle_block(block: &mut [u8], row: usize, warm: bool)
@@ -38,8 +39,8 @@ pub fn settle_at(store: &mut [u8], index: usize)
     let date = date_of(store);
     let warm = quality::limits::is_warm(date.month);
     let row = row_of(store, index) as usize;
-    let a = block_at(store, index);
-    let b = a + 684;
+    let a = block_start(store, index);
+    let b = a + BLOCK_LENGTH;
     settle_block(&mut store[a..b], row, warm);
-    set_settled(store, index, true);
+    set_settled(store, index, 1);
 }

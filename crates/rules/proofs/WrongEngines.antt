@@ -7,14 +7,14 @@
 use mathlib.Core.Path.{_≡_, refl, sym, _∙_, ap}
 use mathlib.Core.Bool.{false, cond}
 use mathlib.Core.List.{List, [], _∷_}
-use Prim.Native.Nat.{ℕ, zero, suc, _<_, _%_}
+use Prim.Native.Nat.{ℕ, zero, suc, _+_, _<_, _%_}
 use native.Mathlib.Omega.{arith}
 use lib.Dec.{eqb, lit≤}
 use lib.ListN.{length, getD}
 use Rattle.laws.specs.Table.{table}
 use Rattle.calendar.specs.Dates.{isDate, daysIn}
 use Rattle.store_layout.specs.Model.{Store, stationAt}
-use Rattle.store_layout.specs.Layout.{encode, decode, encodeEntry, storeLength}
+use Rattle.store_layout.specs.Layout.{encode, decode, encodeEntry, entryLength, blockLength, storeLength}
 use Rattle.store_layout.specs.Opening.{openable, fresh}
 use Rattle.store_layout.specs.Updates.{withBlock, withStation}
 use Rattle.store_layout.specs.Index.{indexIn}
@@ -212,7 +212,7 @@ wiping c s = record { answer = step c s .answer; store = [] }
 wiping-refuted : Isolated wiping → ⊥
 unfolding wiping left naming records decode table indexIn
 wiping-refuted i =
-    let l : _≡_ {A = ℕ} 0 692 =
+    let l : _≡_ {A = ℕ} 0 (entryLength + blockLength) =
     i .alike 2024 4 11 40001 0 (40001 ∷ []) (0 ∷ []) (40001 ∷ []) (0 ∷ []) (settle 40001 ∷ []) (settle 40001 ∷ []) opens-one has-one opens-one has-one refl .3
     in
     omega arith

@@ -32,7 +32,7 @@ module _ (engine : Engine) where
 
   -- Runs A and B and the run of S's calls alone agree: for every date, every station x with its row, any two lists of stations that have
   -- x with that row and that open accepts, and any two lists of calls whose calls naming x are the same. The records are there: an entry
-  -- and a block, 692 bytes.
+  -- and a block.
   pub record Isolated : Type 0 where
     pub alone : (year month day x row : ℕ) (numbers rows : List ℕ) → Opens year month day numbers rows → Has numbers rows x row
         → Opens year month day (x ∷ []) (row ∷ [])

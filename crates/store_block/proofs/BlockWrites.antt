@@ -1,6 +1,7 @@
 -- Writing a block: one head or one cell. Every other head and cell stays.
---     head-written, cell-written      what is read of a block after its bytes were stored
---     datum-bytes                     a cell's bytes, read again
+--     head-written, cell-written      what is read of a block after some bytes were stored
+--     cell-bytes                      a cell's bytes, read again
+--     cell-put, head-put              what is read after a cell's or a head's bytes were stored
 -- Assumes nothing.
 use mathlib.Core.Path.{_≡_, refl, sym, _∙_, ap}
 use mathlib.Core.List.{List, [], _∷_}
@@ -16,7 +17,8 @@ use Rattle.laws.proofs.Tables.{getD-table, table-ext}
 use Rattle.quality.specs.Cell.{Cell}
 use Rattle.quality.specs.Coded.{cellOf}
 use Rattle.quality.specs.Elements.{column}
-use Rattle.store_layout.specs.Layout.{headLength, signed, unsigned, word, wordBytes, cellLength, sheetLength, blockLength, rawFrom, checkedFrom, cellIndex, headAt, decodeHead, decodeCell, encodeCell, decodeBlock}
+use Rattle.quality.specs.declared.head.SlotHead.{SlotHead}
+use Rattle.store_layout.specs.Layout.{headLength, signed, unsigned, word, wordBytes, cellLength, sheetLength, blockLength, rawFrom, checkedFrom, cellIndex, headAt, decodeHead, encodeHead, decodeCell, encodeCell, decodeBlock}
 use Rattle.store_layout.proofs.Numbers.{word-bytes, value-signed, unsigned-value}
 use Rattle.store_layout.proofs.Parts.{Same, same-is}
 use Rattle.store_layout.proofs.Read.{head-same, cell-same}
@@ -116,9 +118,9 @@ module _ (s vs : List ℕ) (long : length s ≡ blockLength) where
       }
 
 -- ---- a cell's bytes, read again: of any value of 16 bits
-pub datum-bytes : (state flag x : ℕ) → x < 65536 → decodeCell (encodeCell (cellOf state flag x)) 0 ≡ cellOf state flag x
+pub cell-bytes : (state flag x : ℕ) → x < 65536 → decodeCell (encodeCell (cellOf state flag x)) 0 ≡ cellOf state flag x
 unfolding decodeCell encodeCell
-datum-bytes state flag x h = λ d. record { state = state; flag = flag; value = same d }
+cell-bytes state flag x h = λ d. record { state = state; flag = flag; value = same d }
   where
     turned : (x + 32768) % 65536 < 65536
     turned = omega arith
@@ -140,4 +142,10 @@ unfolding encodeCell
 cell-put s s′ long a e k l m state flag x at high low h p q r w =
     rw (w, p, q, r)
     (cell-written s (encodeCell (cellOf state flag x)) long refl a e k l m
-    ∙ ap (λ (c : Cell). withCell a e k c (decodeBlock s)) (datum-bytes state flag x h))
+    ∙ ap (λ (c : Cell). withCell a e k c (decodeBlock s)) (cell-bytes state flag x h))
+
+-- a head's bytes stored where it lies
+pub head-put : (s s′ : List ℕ) → length s ≡ blockLength → (k : ℕ) → k < 9 → (h : SlotHead) → s′ ≡ sets s (headAt k) (encodeHead h)
+    → decodeBlock s′ ≡ withHead k h (decodeBlock s)
+unfolding decodeHead encodeHead
+head-put s s′ long k m h w = ap decodeBlock w ∙ head-written s (encodeHead h) long refl k m

@@ -1,4 +1,4 @@
--- What is read of a block's bytes, sheet by sheet.
+-- What is read of a block's bytes, sheet by sheet; and its heads.
 -- Assumes nothing.
 use mathlib.Core.Path.{_≡_, refl, sym, _∙_, ap}
 use mathlib.Core.List.{List, [], _∷_, map}
@@ -10,8 +10,9 @@ use Rattle.laws.specs.Table.{table}
 use Rattle.laws.proofs.Tables.{getD-table, length-table}
 use Rattle.quality.specs.Cell.{Cell, none, slot}
 use Rattle.quality.specs.Elements.{column}
+use Rattle.quality.specs.declared.head.SlotHead.{SlotHead}
 use Rattle.store_layout.specs.Model.{Block}
-use Rattle.store_layout.specs.Layout.{decodeCell, decodeBlock}
+use Rattle.store_layout.specs.Layout.{headAt, decodeHead, decodeCell, decodeBlock}
 use Rattle.store_block.specs.declared.block.Area.{Area}
 use Rattle.store_block.specs.declared.block.Area.the-variants.{Raw, Checked}
 use Rattle.store_block.specs.Areas.{sheetIn, cellAt, withColumn, withCell}
@@ -60,12 +61,17 @@ map-set f [] i y = refl
 map-set f (x ∷ xs) zero y = refl
 map-set {B = B} f (x ∷ xs) (suc i) y = ap (λ (zs : List B). f x ∷ zs) (map-set f xs i y)
 
+pub map-at : {A B : Type 0} (f : A → B) (l : List A) (k : ℕ) (d : A) (d′ : B) → k < length l → getD (map f l) k d′ ≡ f (getD l k d)
+map-at f [] k d d′ h = absurd (not-suc-le-zero h)
+map-at f (x ∷ xs) zero d d′ h = refl
+map-at f (x ∷ xs) (suc k) d d′ h = map-at f xs k d d′ (le-of-suc-le-suc h)
+
 pub map-table : {A B : Type 0} (f : A → B) (n : ℕ) (g : ℕ → A) → map f (table n g) ≡ table n (λ k. f (g k))
 unfolding table
 map-table f zero g = refl
 map-table {B = B} f (suc n) g = ap (λ (zs : List B). f (g zero) ∷ zs) (map-table f n (λ k. g (suc k)))
 
-pub map-at : {A B : Type 0} (f : A → B) (l : List A) (k : ℕ) (d : A) (d′ : B) → k < length l → getD (map f l) k d′ ≡ f (getD l k d)
-map-at f [] k d d′ h = absurd (not-suc-le-zero h)
-map-at f (x ∷ xs) zero d d′ h = refl
-map-at f (x ∷ xs) (suc k) d d′ h = map-at f xs k d d′ (le-of-suc-le-suc h)
+-- ---- a field of each slot head
+pub each-head : (f : SlotHead → ℕ) (b : List ℕ) → table 9 (λ k. f (decodeHead b (headAt k))) ≡ map f (decodeBlock b .heads)
+unfolding decodeBlock
+each-head f b = sym (map-table f 9 (λ k. decodeHead b (headAt k)))

@@ -1,27 +1,27 @@
-// A station's block, 684 bytes: its slot heads, and its raw and checked cells, read and written.
+// A station's block: its slot heads, and its raw and checked cells, read and written.
 ghost use mathlib.Core.Path.{_≡_};
 ghost use mathlib.Core.List.{map};
 ghost use Prim.Native.Nat.{_+_, _<_, _≤_};
 ghost use lib.Dec.{eqb};
 ghost use lib.ListN.{length};
-ghost use Rattle.laws.specs.Table.{table};
 ghost use Rattle.quality.specs.Cell.{slot};
 ghost use Rattle.quality.specs.Coded.{cell, cells, sheet};
 ghost use Rattle.quality.specs.Elements.{column};
 ghost use Rattle.store_layout.specs.Model.{headOf};
-ghost use Rattle.store_layout.specs.Layout.{byte, blockLength, headLength, cellLength, checkedFrom, headAt, decodeCell, decodeBlock};
+ghost use Rattle.store_layout.specs.Layout.{blockLength, cellLength, checkedFrom, decodeCell, decodeBlock};
 ghost use Rattle.store_layout.specs.Updates.{withSlot, withChecked};
-ghost use Rattle.store_block.specs.Areas.{sheetIn, areaFrom, cellAt, withHead, withCell, withColumn};
+ghost use Rattle.store_block.specs.Areas.{sheetIn, areaFrom, cellAt, withCell, withColumn};
 ghost use Rattle.store_block.specs.Coded.{directionsOf, durationsOf};
 use quality::column::Column;
 use quality::column::OffsetCell;
 use quality::head::SlotHead;
 use store_numbers::at::CELL_LENGTH;
 use store_numbers::at::CHECKED_FROM;
-use store_numbers::at::DD_IN;
 use store_numbers::at::HEAD_LENGTH;
 use store_numbers::at::RAW_FROM;
-use store_numbers::at::TR_IN;
+use store_numbers::head::head_at;
+use store_numbers::head::put_head;
+use store_numbers::head::unfiled;
 use store_numbers::write::put_four;
 
 // A block's two sheets of cells.
@@ -49,8 +49,8 @@ fn cell_at(area: Area, element: usize, k: usize) -> usize
 }
 
 // The cell at a position.
-fn datum_at(block: &[u8], at: usize) -> OffsetCell
-    requires { ⌜ at + 3 < length (now block) ⌝ }
+fn cell_in(block: &[u8], at: usize) -> OffsetCell
+    requires { ⌜ at + cellLength ≤ length (now block) ⌝ }
     ensures { λ r. ⌜ cell r ≡ decodeCell (now (block .entry)) at ⌝ }
 {
     OffsetCell {
@@ -65,7 +65,7 @@ pub fn cell_of(block: &[u8], area: Area, element: usize, k: usize) -> OffsetCell
     requires { ⌜ (length (now block) ≡ blockLength) × (element < 9) × (k < 9) ⌝ }
     ensures { λ r. ⌜ cell r ≡ slot (column (sheetIn area (decodeBlock (now (block .entry)))) element) k ⌝ }
 {
-    datum_at(block, cell_at(area, element, k))
+    cell_in(block, cell_at(area, element, k))
 }
 
 // A column to be filled.
@@ -84,7 +84,7 @@ pub fn column_of(block: &[u8], area: Area, element: usize) -> Column
 {
     let mut c = blank();
     for k in 0..9 {
-        c = quality::column::put(c, k, datum_at(block, cell_at(area, element, k)));
+        c = quality::column::put(c, k, cell_in(block, cell_at(area, element, k)));
     }
     c
 }
@@ -102,14 +102,14 @@ pub fn sheet_of(block: &[u8], area: Area) -> [Column; 9]
     r
 }
 
-// One byte of each slot head, the one that lies `at` bytes into it.
-fn head_bytes(block: &[u8], at: usize) -> [u8; 9]
-    requires { ⌜ (length (now block) ≡ blockLength) × (at < headLength) ⌝ }
-    ensures { λ r. ⌜ r ≡ table 9 (λ k. byte (now (block .entry)) (headAt k + at)) ⌝ }
+// The nine slot heads.
+pub fn heads_of(block: &[u8]) -> [SlotHead; 9]
+    requires { ⌜ length (now block) ≡ blockLength ⌝ }
+    ensures { λ r. ⌜ r ≡ decodeBlock (now (block .entry)) .heads ⌝ }
 {
-    let mut r = [0; 9];
+    let mut r = [unfiled(); 9];
     for k in 0..9 {
-        r[k] = block[HEAD_LENGTH * k + at];
+        r[k] = head_at(block, HEAD_LENGTH * k);
     }
     r
 }
@@ -119,7 +119,11 @@ pub fn directions(block: &[u8]) -> [u8; 9]
     requires { ⌜ length (now block) ≡ blockLength ⌝ }
     ensures { λ r. ⌜ r ≡ directionsOf (decodeBlock (now (block .entry))) ⌝ }
 {
-    head_bytes(block, DD_IN)
+    let mut r = [0; 9];
+    for k in 0..9 {
+        r[k] = head_at(block, HEAD_LENGTH * k).dd;
+    }
+    r
 }
 
 // tR of each slot.
@@ -127,7 +131,11 @@ pub fn durations(block: &[u8]) -> [u8; 9]
     requires { ⌜ length (now block) ≡ blockLength ⌝ }
     ensures { λ r. ⌜ r ≡ durationsOf (decodeBlock (now (block .entry))) ⌝ }
 {
-    head_bytes(block, TR_IN)
+    let mut r = [0; 9];
+    for k in 0..9 {
+        r[k] = head_at(block, HEAD_LENGTH * k).tr;
+    }
+    r
 }
 
 // Whether slot k is filed.
@@ -135,15 +143,7 @@ pub fn is_filed(block: &[u8], k: usize) -> bool
     requires { ⌜ (length (now block) ≡ blockLength) × (k < 9) ⌝ }
     ensures { λ r. ⌜ r ≡ eqb (headOf (decodeBlock (now (block .entry))) k .filed) 1 ⌝ }
 {
-    block[HEAD_LENGTH * k] == 1
-}
-
-// Another head for slot k.
-fn put_head(block: &mut [u8], k: usize, h: SlotHead)
-    requires { ⌜ (length (now block) ≡ blockLength) × (k < 9) ⌝ }
-    ensures { λ _. ⌜ decodeBlock (now (block .exit)) ≡ withHead k h (decodeBlock (now (block .entry))) ⌝ }
-{
-    put_four(block, HEAD_LENGTH * k, h.filed, h.ir, h.tr, h.dd);
+    head_at(block, HEAD_LENGTH * k).filed == 1
 }
 
 // Another cell of an element at slot k.
@@ -166,7 +166,7 @@ pub fn put_slot(block: &mut [u8], k: usize, h: SlotHead, raw: [OffsetCell; 9])
     requires { ⌜ (length (now block) ≡ blockLength) × (k < 9) ⌝ }
     ensures { λ _. ⌜ decodeBlock (now (block .exit)) ≡ withSlot k h (map cell raw) (decodeBlock (now (block .entry))) ⌝ }
 {
-    put_head(block, k, h);
+    put_head(block, HEAD_LENGTH * k, h);
     for e in 0..9 {
         put_cell(block, Area::Raw, e, k, raw[e]);
     }

@@ -22,8 +22,8 @@ module _ (f : ℕ → Bool) where
       ap (λ (r : Bool). r && all (λ e. f (9 * n + e)) 9) (nines n) ∙ sym (all-on (9 * n) 9) ∙ ap (all f) z
 
 -- of a test of what stands at an index
-pub slot-by-slot : (p : ℕ → Bool) (at : ℕ) → all (λ k. all (λ e. p ((at + 36 * k) + cellLength * e)) 9) 9 ≡ all (λ j. p (at + cellLength * j)) 81
+pub slot-by-slot : (p : ℕ → Bool) (at : ℕ) → all (λ k. all (λ e. p ((at + cellLength * 9 * k) + cellLength * e)) 9) 9 ≡ all (λ j. p (at + cellLength * j)) 81
 slot-by-slot p at = (λ i. all (λ k. all (λ e. p (same k e i)) 9) 9) ∙ nines (λ j. p (at + cellLength * j)) 9
   where
-    same : (k e : ℕ) → (at + 36 * k) + cellLength * e ≡ at + cellLength * (9 * k + e)
+    same : (k e : ℕ) → (at + cellLength * 9 * k) + cellLength * e ≡ at + cellLength * (9 * k + e)
     same k e = omega arith

@@ -7,13 +7,12 @@ ghost use Rattle.store_layout.specs.Layout.{blockLength, blockAt, headLength, c
 ghost use Rattle.store_layout.specs.Sound.{soundHead, soundCell, soundBlock};
 use store_fields::is_cell;
 use store_fields::is_head;
-use store_numbers::at::BLOCK_LENGTH;
 use store_numbers::at::CELL_LENGTH;
 use store_numbers::at::CHECKED_FROM;
-use store_numbers::at::ENTRY_LENGTH;
 use store_numbers::at::HEAD_LENGTH;
-use store_numbers::at::HEADER_LENGTH;
 use store_numbers::at::RAW_FROM;
+use store_numbers::at::SLOT_LENGTH;
+use store_numbers::at::block_at;
 use store_numbers::read::word_at;
 
 fn is_head_at(store: &[u8], at: usize) -> bool
@@ -51,7 +50,7 @@ fn is_cell_at(store: &[u8], at: usize, states: u8, flags: u8) -> bool
 
 // The nine raw or checked cells of a slot from a position on.
 fn are_nine(store: &[u8], at: usize, states: u8, flags: u8) -> bool
-    requires { ⌜ at + 36 ≤ length (now store) ⌝ }
+    requires { ⌜ at + cellLength * 9 ≤ length (now store) ⌝ }
     ensures { λ r. ⌜ r ≡ all (λ e. soundCell states flags (now (store .entry)) (at + cellLength * e)) 9 ⌝ }
 {
     for e in 0..9 {
@@ -68,7 +67,7 @@ fn are_cells(store: &[u8], at: usize, states: u8, flags: u8) -> bool
     ensures { λ r. ⌜ r ≡ all (λ j. soundCell states flags (now (store .entry)) (at + cellLength * j)) 81 ⌝ }
 {
     for k in 0..9 {
-        if !are_nine(store, at + 36 * k, states, flags) {
+        if !are_nine(store, at + SLOT_LENGTH * k, states, flags) {
             return false;
         }
     }
@@ -91,7 +90,7 @@ pub fn are_blocks(store: &[u8], n: usize) -> bool
     ensures { λ r. ⌜ r ≡ all (λ i. soundBlock (now (store .entry)) (blockAt n i)) n ⌝ }
 {
     for i in 0..n {
-        if !is_block(store, HEADER_LENGTH + ENTRY_LENGTH * n + BLOCK_LENGTH * i) {
+        if !is_block(store, block_at(n, i)) {
             return false;
         }
     }

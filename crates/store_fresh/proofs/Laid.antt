@@ -3,13 +3,12 @@
 use mathlib.Core.Path.{_≡_, refl, sym, _∙_, ap}
 use mathlib.Core.List.{List, [], _∷_, _++_}
 use Prim.Native.Nat.{ℕ, _+_, _*_}
-use native.Mathlib.Nat.{add-zero}
 use native.Mathlib.Omega.{arith}
 use lib.ListN.{length, getD, replicate}
 use lib.Seq.{sets}
 use Rattle.laws.specs.Table.{table}
 use Rattle.laws.proofs.Tables.{length-table}
-use Rattle.store_layout.specs.Model.{Station, stationAt, emptyBlock}
+use Rattle.store_layout.specs.Model.{Station, stationAt, unfiled, emptyBlock}
 use Rattle.store_layout.specs.Layout.{headerLength, entryLength, blockLength, sheetLength, blockAt, storeLength, wordBytes, longBytes, pieces, encodeHead, encodeCell, encodeSheet, encodeBlock, encodeEntry, encodeHeader, encode}
 use Rattle.store_layout.specs.Opening.{fresh}
 use Rattle.store_layout.proofs.Opened.{fresh-count, fresh-station}
@@ -18,7 +17,7 @@ use Rattle.store_layout.proofs.Stores.{length-store}
 use Rattle.store_numbers.proofs.Laying.{run, sets-all}
 
 -- an empty block: nine unfiled heads, and zeros
-pub empty-bytes : pieces 9 (λ k. 0 ∷ 5 ∷ 0 ∷ 100 ∷ []) ++ replicate (sheetLength + sheetLength) 0 ≡ encodeBlock emptyBlock
+pub empty-bytes : pieces 9 (λ k. encodeHead unfiled) ++ replicate (sheetLength + sheetLength) 0 ≡ encodeBlock emptyBlock
 unfolding table pieces encodeHead encodeCell encodeSheet encodeBlock
 empty-bytes = refl
 
@@ -26,7 +25,7 @@ empty-bytes = refl
 module _ (year month day : ℕ) (numbers rows : List ℕ) where
   -- the eight words of the header
   abbrev pub headerWords : List ℕ
-  headerWords = length numbers ∷ headerLength ∷ (headerLength + entryLength * length numbers) ∷ blockLength ∷ year ∷ month ∷ day ∷ 0 ∷ []
+  headerWords = length numbers ∷ headerLength ∷ blockAt (length numbers) 0 ∷ blockLength ∷ year ∷ month ∷ day ∷ 0 ∷ []
 
   abbrev pub headerPart : List ℕ
   headerPart = pieces 8 (λ k. wordBytes (getD headerWords k 0))
@@ -39,7 +38,7 @@ module _ (year month day : ℕ) (numbers rows : List ℕ) where
 
   header-laid : headerPart ≡ encodeHeader (fresh year month day numbers rows)
   unfolding pieces encodeHeader fresh
-  header-laid = rw (length-table, add-zero)
+  header-laid = rw length-table
 
   entries-laid : entryPart ≡ pieces (length numbers) (λ i. encodeEntry (stationAt (fresh year month day numbers rows .stations) i))
   unfolding encodeEntry

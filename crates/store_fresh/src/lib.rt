@@ -1,21 +1,23 @@
 // The bytes of a fresh store: the header, the stations' entries, and their empty blocks.
 ghost use mathlib.Core.Path.{_≡_};
 ghost use mathlib.Core.Bool.{true};
-ghost use mathlib.Core.List.{[], _∷_, _++_};
+ghost use mathlib.Core.List.{_++_};
 ghost use Prim.Native.Nat.{_+_, _≤_};
 ghost use lib.ListN.{length, getD};
 ghost use lib.Seq.{sets};
-ghost use Rattle.store_layout.specs.Model.{emptyBlock};
-ghost use Rattle.store_layout.specs.Layout.{headerLength, entryLength, blockLength, rawFrom, entryAt, blockAt, storeLength, wordBytes, longBytes, pieces, encodeBlock, encode};
+ghost use Rattle.store_layout.specs.Model.{unfiled, emptyBlock};
+ghost use Rattle.store_layout.specs.Layout.{headerLength, entryLength, blockLength, rawFrom, entryAt, blockAt, storeLength, wordBytes, longBytes, pieces, encodeHead, encodeBlock, encode};
 ghost use Rattle.store_layout.specs.Opening.{openable, fresh};
 use store_numbers::at::BLOCK_LENGTH;
-use store_numbers::at::ENTRY_LENGTH;
 use store_numbers::at::HEAD_LENGTH;
 use store_numbers::at::HEADER_LENGTH;
 use store_numbers::at::RAW_FROM;
 use store_numbers::at::ROW_IN;
 use store_numbers::at::SETTLED_IN;
-use store_numbers::write::put_four;
+use store_numbers::at::block_at;
+use store_numbers::at::entry_at;
+use store_numbers::head::put_head;
+use store_numbers::head::unfiled;
 use store_numbers::write::put_long;
 use store_numbers::write::put_word;
 use store_numbers::write::put_zeros;
@@ -46,22 +48,17 @@ fn put_entries(store: &mut [u8], stations: &[u32], rows: &[u16])
     ensures { λ _. ⌜ now (store .exit) ≡ sets (now (store .entry)) headerLength (pieces (length (now (stations .entry))) (λ i. longBytes (getD (now (stations .entry)) i 0) ++ (wordBytes (getD (now (rows .entry)) i 0) ++ wordBytes 0))) ⌝ }
 {
     for i in 0..stations.len() {
-        put_entry(
-            store,
-            HEADER_LENGTH + ENTRY_LENGTH * i,
-            stations[i],
-            rows[i],
-        );
+        put_entry(store, entry_at(i), stations[i], rows[i]);
     }
 }
 
 // Nine unfiled slot heads.
 fn put_heads(store: &mut [u8], at: usize)
     requires { ⌜ at + rawFrom ≤ length (now store) ⌝ }
-    ensures { λ _. ⌜ now (store .exit) ≡ sets (now (store .entry)) at (pieces 9 (λ k. 0 ∷ 5 ∷ 0 ∷ 100 ∷ [])) ⌝ }
+    ensures { λ _. ⌜ now (store .exit) ≡ sets (now (store .entry)) at (pieces 9 (λ k. encodeHead unfiled)) ⌝ }
 {
     for k in 0..9 {
-        put_four(store, at + HEAD_LENGTH * k, 0, 5, 0, 100);
+        put_head(store, at + HEAD_LENGTH * k, unfiled());
     }
 }
 
@@ -80,7 +77,7 @@ fn put_blocks(store: &mut [u8], n: usize)
     ensures { λ _. ⌜ now (store .exit) ≡ sets (now (store .entry)) (blockAt n 0) (pieces n (λ i. encodeBlock emptyBlock)) ⌝ }
 {
     for i in 0..n {
-        put_block(store, HEADER_LENGTH + ENTRY_LENGTH * n + BLOCK_LENGTH * i);
+        put_block(store, block_at(n, i));
     }
 }
 
@@ -90,11 +87,10 @@ pub fn put_fresh(store: &mut [u8], year: u32, month: u32, day: u32, stations: &[
     ensures { λ _. ⌜ now (store .exit) ≡ encode (fresh year month day (now (stations .entry)) (now (rows .entry))) ⌝ }
 {
     let n = stations.len();
-    let blocks = HEADER_LENGTH + ENTRY_LENGTH * n;
     let words = [
         n as u16,
         HEADER_LENGTH as u16,
-        blocks as u16,
+        block_at(n, 0) as u16,
         BLOCK_LENGTH as u16,
         year as u16,
         month as u16,

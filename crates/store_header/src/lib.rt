@@ -10,12 +10,14 @@ use store_numbers::at::BLOCK_LENGTH_AT;
 use store_numbers::at::BLOCK_OFFSET_AT;
 use store_numbers::at::COUNT_AT;
 use store_numbers::at::DAY_AT;
-use store_numbers::at::ENTRY_LENGTH;
 use store_numbers::at::HEADER_LENGTH;
 use store_numbers::at::LIST_OFFSET_AT;
 use store_numbers::at::MONTH_AT;
+use store_numbers::at::MOST_STATIONS;
 use store_numbers::at::YEAR_AT;
 use store_numbers::at::ZERO_AT;
+use store_numbers::at::block_at;
+use store_numbers::at::store_length;
 use store_numbers::read::word_at;
 
 fn is_date_there(store: &[u8]) -> bool
@@ -35,10 +37,10 @@ pub fn is_header(store: &[u8]) -> bool
     ensures { λ r. ⌜ r ≡ soundHeader (now (store .entry)) ⌝ }
 {
     let n = word_at(store, COUNT_AT) as usize;
-    let size = HEADER_LENGTH + ENTRY_LENGTH * n + BLOCK_LENGTH * n;
-    let blocks = HEADER_LENGTH + ENTRY_LENGTH * n;
+    let size = store_length(n);
+    let blocks = block_at(n, 0);
     (1 <= n)
-        & (n <= 32)
+        & (n <= MOST_STATIONS)
         & (store.len() == size)
         & (word_at(store, LIST_OFFSET_AT) as usize == HEADER_LENGTH)
         & (word_at(store, BLOCK_OFFSET_AT) as usize == blocks)

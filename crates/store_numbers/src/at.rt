@@ -1,4 +1,8 @@
-// Where things lie in the store, in bytes.
+// Where things lie in the store, in bytes: the code's names for the definitions of store_layout's Layout.antt.
+ghost use mathlib.Core.Path.{_≡_};
+ghost use Prim.Native.Nat.{_≤_};
+ghost use Rattle.store_layout.specs.Layout.{entryAt, blockAt, storeLength};
+ghost use Rattle.store_numbers.specs.Room.{room};
 
 // The header, and in it the count of stations, the two offsets, the block length, the date and the last number.
 pub const HEADER_LENGTH: usize = 16;
@@ -26,17 +30,46 @@ pub const ROW_IN: usize = 4;
 
 pub const SETTLED_IN: usize = 6;
 
-// A station's block: its nine heads, then its raw and its checked cells. In a head its tR and dd.
-pub const BLOCK_LENGTH: usize = 684;
-
+// A station's block: nine slot heads, then the raw and the checked cells, in each nine slots of nine cells.
 pub const HEAD_LENGTH: usize = 4;
-
-pub const TR_IN: usize = 2;
-
-pub const DD_IN: usize = 3;
 
 pub const CELL_LENGTH: usize = 4;
 
-pub const RAW_FROM: usize = 36;
+pub const SLOT_LENGTH: usize = CELL_LENGTH * 9;
 
-pub const CHECKED_FROM: usize = 360;
+pub const RAW_FROM: usize = HEAD_LENGTH * 9;
+
+pub const CHECKED_FROM: usize = RAW_FROM + SLOT_LENGTH * 9;
+
+pub const BLOCK_LENGTH: usize = CHECKED_FROM + SLOT_LENGTH * 9;
+
+// What a station adds to a store's length, how many there may be, and the length of the longest store.
+pub const STATION_LENGTH: usize = ENTRY_LENGTH + BLOCK_LENGTH;
+
+pub const MOST_STATIONS: usize = 32;
+
+pub const LONGEST_STORE: usize = HEADER_LENGTH + STATION_LENGTH * MOST_STATIONS;
+
+// Where the entry of the station at index i begins.
+pub fn entry_at(i: usize) -> usize
+    requires { ⌜ entryAt i ≤ room ⌝ }
+    ensures { λ r. ⌜ r ≡ entryAt i ⌝ }
+{
+    HEADER_LENGTH + ENTRY_LENGTH * i
+}
+
+// Where the block of the station at index i of n begins.
+pub fn block_at(n: usize, i: usize) -> usize
+    requires { ⌜ blockAt n i ≤ room ⌝ }
+    ensures { λ r. ⌜ r ≡ blockAt n i ⌝ }
+{
+    HEADER_LENGTH + ENTRY_LENGTH * n + BLOCK_LENGTH * i
+}
+
+// The length of a store of n stations.
+pub fn store_length(n: usize) -> usize
+    requires { ⌜ storeLength n ≤ room ⌝ }
+    ensures { λ r. ⌜ r ≡ storeLength n ⌝ }
+{
+    block_at(n, n)
+}

@@ -6,9 +6,8 @@ ghost use lib.ListN.{length};
 ghost use Rattle.store_layout.specs.Opening.{openable};
 ghost use Rattle.store_opening.specs.Opened.{listed, Opened};
 use store_fresh::put_fresh;
-use store_numbers::at::BLOCK_LENGTH;
-use store_numbers::at::ENTRY_LENGTH;
-use store_numbers::at::HEADER_LENGTH;
+use store_numbers::at::MOST_STATIONS;
+use store_numbers::at::store_length;
 
 // A station's number, above the one before, and its climate row.
 fn is_listed(last: u32, number: u32, row: u16) -> bool
@@ -41,13 +40,13 @@ fn is_openable(size: usize, year: u32, month: u32, day: u32, stations: &[u32], r
     if n < 1 {
         return false;
     }
-    if 32 < n {
+    if MOST_STATIONS < n {
         return false;
     }
     if rows.len() != n {
         return false;
     }
-    if size != HEADER_LENGTH + ENTRY_LENGTH * n + BLOCK_LENGTH * n {
+    if size != store_length(n) {
         return false;
     }
     if !calendar::is_date(year, month, day) {

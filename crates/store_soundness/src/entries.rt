@@ -7,10 +7,9 @@ ghost use Rattle.laws.specs.All.{all};
 ghost use Rattle.store_layout.specs.Layout.{entryAt};
 ghost use Rattle.store_layout.specs.Sound.{soundEntry, soundOrder};
 use store_fields::is_entry;
-use store_numbers::at::ENTRY_LENGTH;
-use store_numbers::at::HEADER_LENGTH;
 use store_numbers::at::ROW_IN;
 use store_numbers::at::SETTLED_IN;
+use store_numbers::at::entry_at;
 use store_numbers::read::long_at;
 use store_numbers::read::word_at;
 
@@ -21,7 +20,7 @@ pub fn are_entries(store: &[u8], n: usize) -> bool
 {
     let mut last = 0;
     for i in 0..n {
-        let at = HEADER_LENGTH + ENTRY_LENGTH * i;
+        let at = entry_at(i);
         let number = long_at(store, at);
         if !is_entry(
             last,

@@ -6,8 +6,7 @@ ghost use Rattle.store_layout.specs.Index.{indexIn, numbers};
 ghost use Rattle.store_soundness.specs.Located.{placed, located};
 use crate::sound::is_sound;
 use store_numbers::at::COUNT_AT;
-use store_numbers::at::ENTRY_LENGTH;
-use store_numbers::at::HEADER_LENGTH;
+use store_numbers::at::entry_at;
 use store_numbers::read::long_at;
 use store_numbers::read::word_at;
 
@@ -25,7 +24,7 @@ pub fn find(store: &[u8], station: u32) -> Located
 {
     let n = word_at(store, COUNT_AT) as usize;
     for i in 0..n {
-        if long_at(store, HEADER_LENGTH + ENTRY_LENGTH * i) == station {
+        if long_at(store, entry_at(i)) == station {
             return Located::At(i);
         }
     }

@@ -2,6 +2,11 @@
 use crate::print::count;
 use crate::print::number;
 use crate::print::text;
+use store_numbers::at::LONGEST_STORE;
+use store_numbers::at::STATION_LENGTH;
+
+// The buffer of the calls: room for one station more than a store may have.
+pub const BUFFER: usize = LONGEST_STORE + STATION_LENGTH;
 
 pub fn put(store: &mut [u8], at: usize, byte: u32) {
     if at < store.len() {
@@ -36,13 +41,13 @@ fn note(s: Span, differs: bool, i: usize) -> Span {
     }
 }
 
-fn span_of(before: [u8; 22852], now: [u8; 22852]) -> Span {
+fn span_of(before: [u8; BUFFER], now: [u8; BUFFER]) -> Span {
     let mut s = Span {
         n: 0,
         first: 0,
         last: 0,
     };
-    for i in 0..22852 {
+    for i in 0..BUFFER {
         s = note(s, before[i] != now[i], i);
     }
     s
@@ -57,7 +62,7 @@ fn changed(s: Span) {
     number(s.last as u64);
 }
 
-pub fn compare(before: [u8; 22852], now: [u8; 22852]) {
+pub fn compare(before: [u8; BUFFER], now: [u8; BUFFER]) {
     if check::same(&before, &now) {
         text(b", store as it was");
         return;

@@ -21,6 +21,7 @@ use engine_answers::CellReply;
 use engine_answers::DayReply;
 use engine_answers::Reply;
 use libc::STDIN_FILENO;
+use test_cases::compared::BUFFER;
 use test_cases::compared::compare;
 use test_cases::compared::put;
 use test_cases::print::count;
@@ -94,7 +95,7 @@ fn call(store: &mut [u8], l: &[u8], letter: u8, a: u32, b: u32, c: u32) {
 }
 
 // A line's call on the first bytes of the buffer, which comes back as the call leaves it; a comment and `lend` make none.
-fn step(buffer: [u8; 22852], l: &[u8], letter: u8, lent: u32) -> [u8; 22852] {
+fn step(buffer: [u8; BUFFER], l: &[u8], letter: u8, lent: u32) -> [u8; BUFFER] {
     if (letter == b'#') | (letter == b'l') {
         return buffer;
     }
@@ -110,7 +111,7 @@ fn step(buffer: [u8; 22852], l: &[u8], letter: u8, lent: u32) -> [u8; 22852] {
 }
 
 fn run(script: &[u8]) {
-    let mut buffer = [7u8; 22852];
+    let mut buffer = [7u8; BUFFER];
     let mut lent = 0;
     let mut at = 0;
     while at < script.len() {

@@ -3,16 +3,17 @@
 use borrow.Author.Needs.{needs}
 use mathlib.Core.Path.{_≡_, sym}
 use mathlib.Core.List.{List}
-use Prim.Native.Nat.{ℕ, _+_, _*_, _≤_}
+use Prim.Native.Nat.{ℕ, _≤_}
 use native.Mathlib.Omega.{arith}
 use lib.ListN.{length, take}
+use Rattle.store_layout.specs.Layout.{storeLength}
 use Rattle.dayline_text.proofs.Parts.{counts}
 use Rattle.dayline.proofs.whole.Statement.{statement}
 use Rattle.dayline.proofs.whole.Tie as tie
 
 -- so many bytes are lent of the room for 32 stations
-lent : (n : ℕ) (store : List ℕ) → n ≤ 32 → 22160 ≡ length store → 16 + 692 * n ≡ length (take (16 + 692 * n) store)
-lent n store h e = counts (16 + 692 * n) 22160 store (omega arith) (sym e)
+lent : (n size : ℕ) (store : List ℕ) → n ≤ 32 → size ≡ storeLength n → storeLength 32 ≡ length store → size ≡ length (take size store)
+lent n size store h p e = counts size (storeLength 32) store (omega arith) (sym e)
 
 slice-aggregate-run : tie.Need-slice-aggregate-run
 slice-aggregate-run c = lent _ _ (c .before .before .before .opened .ensures .few) (c .before .store-space .ensures)

@@ -18,11 +18,11 @@ use Rattle.engine_filing.proofs.file_at.Reads as reads
 use Rattle.engine_filing.proofs.file_at.Lts as lts
 use Rattle.engine_filing.proofs.put_report.Reads as put-report-reads
 use Rattle.store_block.proofs.block.is_filed.Reads as is-filed-reads
-use Rattle.store_entries.proofs.block_at.Reads as block-at-reads
+use Rattle.store_entries.proofs.block_start.Reads as block-start-reads
 use Rattle.store_entries.proofs.set_settled.Reads as set-settled-reads
 
-block-at-requires : tie.Need-block-at-requires
-block-at-requires c κs = (Stores.framed (c .before .before .args .store .now) (c .before .before .pre .0), omega (arith, c .before .before .pre .1))
+block-start-requires : tie.Need-block-start-requires
+block-start-requires c κs = (Stores.framed (c .before .before .args .store .now) (c .before .before .pre .0), omega (arith, c .before .before .pre .1))
 
 add-b : tie.Need-add-b
 add-b c = search needs
@@ -49,10 +49,10 @@ returns c =
     let g = o .pre .0 in
     let l = o .pre .1 in
     let i = o .args .index in
-    let a = c .before .before .before .before .block-at .result in
-    let p = c .before .before .before .before .block-at .ensures .0 in
+    let a = c .before .before .before .before .block-start .result in
+    let p = c .before .before .before .before .block-start .ensures .0 in
     Filed.already (o .args .k) (o .args .head) (listed (o .args .values)) (stationAt (decode s .stations) i) i (decode s) s
-    (via (c .before .is-filed .ensures ∙ ap (λ (x : Block). eqb (headOf x (o .args .k) .filed) 1) (Stores.part-block s g i l a (a + 684) p refl)) (c .if1 .taken))
+    (via (c .before .is-filed .ensures ∙ ap (λ (x : Block). eqb (headOf x (o .args .k) .filed) 1) (Stores.part-block s g i l a _ p refl)) (c .if1 .taken))
 
 sub-put-report : tie.Need-sub-put-report
 sub-put-report c = search needs
@@ -73,11 +73,11 @@ set-settled-requires c κs =
     let g = o .pre .0 in
     let l = o .pre .1 in
     let i = o .args .index in
-    let a = c .before .before .before .before .before .before .before .before .before .block-at .result in
-    let p = c .before .before .before .before .before .before .before .before .before .block-at .ensures .0 in
+    let a = c .before .before .before .before .before .before .before .before .before .block-start .result in
+    let p = c .before .before .before .before .before .before .before .before .before .block-start .ensures .0 in
     let ys = c .before .before .before .put-report .last .0 in
-    let e = c .before .before .before .put-report .kept .0 ∙ Stores.part-length s g i l a (a + 684) p refl in
-    (Stores.back-framed s g i l a (a + 684) p refl ys e, subst (λ (n : ℕ). i < n) (sym (Stores.back-count s g i l a (a + 684) p refl ys e)) l)
+    let e = c .before .before .before .put-report .kept .0 ∙ Stores.part-length s g i l a _ p refl in
+    (Stores.back-framed s g i l a _ p refl ys e, subst (λ (n : ℕ). i < n) (sym (Stores.back-count s g i l a _ p refl ys e)) l)
 
 same-length-2 : tie.Need-same-length-2
 same-length-2 c = search needs
@@ -89,15 +89,15 @@ returns-2 c =
     let g = o .pre .0 in
     let l = o .pre .1 in
     let i = o .args .index in
-    let a = c .before .before .before .before .before .before .before .before .before .before .before .before .block-at .result in
-    let p = c .before .before .before .before .before .before .before .before .before .before .before .before .block-at .ensures .0 in
+    let a = c .before .before .before .before .before .before .before .before .before .before .before .before .block-start .result in
+    let p = c .before .before .before .before .before .before .before .before .before .before .before .before .block-start .ensures .0 in
     let ys = c .before .before .before .before .before .before .put-report .last .0 in
-    let e = c .before .before .before .before .before .before .put-report .kept .0 ∙ Stores.part-length s g i l a (a + 684) p refl in
-    let q = Stores.part-block s g i l a (a + 684) p refl in
+    let e = c .before .before .before .before .before .before .put-report .kept .0 ∙ Stores.part-length s g i l a _ p refl in
+    let q = Stores.part-block s g i l a _ p refl in
     let t = stationAt (decode s .stations) i in
     Filed.fresh (o .args .k) (o .args .head) (listed (o .args .values)) t i (decode s) s _
     (via (c .before .before .before .before .before .before .before .before .before .is-filed .ensures ∙ ap (λ (x : Block). eqb (headOf x (o .args .k) .filed) 1) q) (c .before .before .before .before .before .before .before .before .if1 .left))
-    (Stores.written s g i l a (a + 684) p refl ys e (c .before .before .set-settled .last .0) 0 (lit< tt)
+    (Stores.written s g i l a _ p refl ys e (c .before .before .set-settled .last .0) 0 (lit< tt)
     (record { each = λ k. omega (arith, c .before .before .before .before .slice-known2 .given k) }) (c .before .before .set-settled .ensures)
     ∙ ap (λ (u : Station). encode (withStation i u (decode s))) (Filed.filed-as (o .args .k) (o .args .head) (listed (o .args .values)) t _ _ q (c .before .before .before .before .before .before .put-report .ensures)))
 
@@ -105,7 +105,7 @@ pub file-at-spec : {M : Type 1} → statement M
 file-at-spec =
     tie.close
     (tie.spec
-    block-at-requires
+    block-start-requires
     add-b
     sub-is-filed
     part-is-filed-start

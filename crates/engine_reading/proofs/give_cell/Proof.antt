@@ -25,7 +25,7 @@ use Rattle.engine_reading.proofs.give_cell.Reads as reads
 use Rattle.engine_reading.proofs.give_cell.Lts as lts
 use Rattle.laws.proofs.difference.Reads as difference-reads
 use Rattle.store_block.proofs.block.cell_of.Reads as cell-of-reads
-use Rattle.store_entries.proofs.block_at.Reads as block-at-reads
+use Rattle.store_entries.proofs.block_start.Reads as block-start-reads
 use Rattle.store_entries.proofs.is_settled.Reads as is-settled-reads
 
 returns : tie.Need-returns
@@ -44,8 +44,8 @@ returns-2 c =
     let t : (eqb (stationAt (decode (c .before .before .before .before .args .store .now) .stations) (c .before .before .before .before .args .index) .settled) 1) ≡ false = via (c .before .is-settled .ensures) (not-true (c .before .is-settled .result) (c .if2 .taken)) in
     rw (w, t)
 
-block-at-requires : tie.Need-block-at-requires
-block-at-requires c κs = (Stores.framed (c .before .before .before .before .args .store .now) (c .before .before .before .before .pre .0), c .before .before .before .before .pre .1)
+block-start-requires : tie.Need-block-start-requires
+block-start-requires c κs = (Stores.framed (c .before .before .before .before .args .store .now) (c .before .before .before .before .pre .0), c .before .before .before .before .pre .1)
 
 add-b : tie.Need-add-b
 add-b c = search needs
@@ -66,10 +66,10 @@ cell-of-requires c κs =
     let g = o .pre .0 in
     let l = o .pre .1 in
     let i = o .args .index in
-    let a = c .before .block-at .result in
-    let p = c .before .block-at .ensures .0 in
+    let a = c .before .block-start .result in
+    let p = c .before .block-start .ensures .0 in
     let w : (leb (c .before .before .before .before .before .before .args .element) 8 && leb (c .before .before .before .before .before .before .args .slot) 8) ≡ true = not-false (leb (c .before .before .before .before .before .before .args .element) 8 && leb (c .before .before .before .before .before .before .args .slot) 8) (c .before .before .before .before .if1 .left) in (
-      Stores.part-length s g i l a (a + 684) p refl,
+      Stores.part-length s g i l a _ p refl,
       omega (arith, leb-true (o .args .element) 8 (and-left (leb (o .args .element) 8) (leb (o .args .slot) 8) w)),
       omega (arith, leb-true (o .args .slot) 8 (and-right (leb (o .args .element) 8) (leb (o .args .slot) 8) w)),
     )
@@ -88,15 +88,15 @@ returns-3 c =
     let g = o .pre .0 in
     let l = o .pre .1 in
     let i = o .args .index in
-    let a = c .before .before .before .before .block-at .result in
-    let p = c .before .before .before .before .block-at .ensures .0 in
+    let a = c .before .before .before .before .block-start .result in
+    let p = c .before .before .before .before .block-start .ensures .0 in
     let e = o .args .element in
     let k = o .args .slot in
     let w : (leb (c .before .before .before .before .before .before .before .before .before .args .element) 8 && leb (c .before .before .before .before .before .before .before .before .before .args .slot) 8) ≡ true = not-false (leb (c .before .before .before .before .before .before .before .before .before .args .element) 8 && leb (c .before .before .before .before .before .before .before .before .before .args .slot) 8) (c .before .before .before .before .before .before .before .if1 .left) in
     let t : (eqb (stationAt (decode (c .before .before .before .before .before .before .before .before .before .args .store .now) .stations) (c .before .before .before .before .before .before .before .before .before .args .index) .settled) 1) ≡ true = via (c .before .before .before .before .before .before .is-settled .ensures) (not-false (c .before .before .before .before .before .before .is-settled .result) (c .before .before .before .before .before .if2 .left)) in
     let q : record { state = c .before .before .cell-of .result .state; flag = c .before .before .cell-of .result .flag; value = toZ w32 (ofZ w32 (c .difference .result)) } ≡ slot (column (stationAt (decode s .stations) i .block .checked) e) k =
     (λ j. record { state = c .before .before .cell-of .result .state; flag = c .before .before .cell-of .result .flag; value = (toZ-ofZ {w = w32} (search needs) ∙ c .difference .ensures) j })
-    ∙ c .before .before .cell-of .ensures ∙ ap (λ (x : Block). slot (column (x .checked) e) k) (Stores.part-block s g i l a (a + 684) p refl) in
+    ∙ c .before .before .cell-of .ensures ∙ ap (λ (x : Block). slot (column (x .checked) e) k) (Stores.part-block s g i l a _ p refl) in
     rw (w, t) (ap aCell q)
 
 pub give-cell-spec : {M : Type 1} → statement M
@@ -106,7 +106,7 @@ give-cell-spec =
     returns
     is-settled-requires
     returns-2
-    block-at-requires
+    block-start-requires
     add-b
     sub-cell-of
     part-cell-of-start

@@ -23,7 +23,7 @@ use Rattle.engine_reading.proofs.give_day.Lts as lts
 use Rattle.daily_line.proofs.day_line.Reads as day-line-reads
 use Rattle.store_block.proofs.block.durations.Reads as durations-reads
 use Rattle.store_block.proofs.block.sheet_of.Reads as sheet-of-reads
-use Rattle.store_entries.proofs.block_at.Reads as block-at-reads
+use Rattle.store_entries.proofs.block_start.Reads as block-start-reads
 use Rattle.store_entries.proofs.is_settled.Reads as is-settled-reads
 
 is-settled-requires : tie.Need-is-settled-requires
@@ -33,8 +33,8 @@ returns : tie.Need-returns
 unfolding dayOf
 returns c = subst (SaysDay (reply.Refused 11)) (sym (cond-false _ _ _ (via (c .before .is-settled .ensures) (not-true _ (c .if1 .taken))))) refl
 
-block-at-requires : tie.Need-block-at-requires
-block-at-requires c κs = (Stores.framed (c .before .before .before .args .store .now) (c .before .before .before .pre .0), c .before .before .before .pre .1)
+block-start-requires : tie.Need-block-start-requires
+block-start-requires c κs = (Stores.framed (c .before .before .before .args .store .now) (c .before .before .before .pre .0), c .before .before .before .pre .1)
 
 add-b : tie.Need-add-b
 add-b c = search needs
@@ -74,9 +74,9 @@ returns-2 c =
     let g = o .pre .0 in
     let l = o .pre .1 in
     let i = o .args .index in
-    let a = c .before .before .before .before .before .block-at .result in
-    let p = c .before .before .before .before .before .block-at .ensures .0 in
-    let e = Stores.part-block s g i l a (a + 684) p refl in
+    let a = c .before .before .before .before .before .block-start .result in
+    let p = c .before .before .before .before .before .block-start .ensures .0 in
+    let e = Stores.part-block s g i l a _ p refl in
     subst (SaysDay (reply.Line (c .day-line .result))) (sym (cond-true _ _ _ (via (c .before .before .before .before .before .before .before .is-settled .ensures) (not-false _ (c .before .before .before .before .before .before .if1 .left)))))
     (subst (Says (c .day-line .result))
     (ap₂ dayLine (c .before .durations .ensures ∙ ap durationsOf e) (c .before .before .before .sheet-of .ensures ∙ ap (λ (x : Block). x .checked) e)) (c .day-line .ensures))
@@ -87,7 +87,7 @@ give-day-spec =
     (tie.spec
     is-settled-requires
     returns
-    block-at-requires
+    block-start-requires
     add-b
     sub-sheet-of
     part-sheet-of-start

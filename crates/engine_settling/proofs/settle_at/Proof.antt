@@ -17,7 +17,7 @@ use Rattle.engine_settling.proofs.settle_at.Reads as reads
 use Rattle.engine_settling.proofs.settle_at.Lts as lts
 use Rattle.engine_settling.proofs.settle_block.Reads as settle-block-reads
 use Rattle.quality.proofs.limits.is_warm.Reads as is-warm-reads
-use Rattle.store_entries.proofs.block_at.Reads as block-at-reads
+use Rattle.store_entries.proofs.block_start.Reads as block-start-reads
 use Rattle.store_entries.proofs.date_of.Reads as date-of-reads
 use Rattle.store_entries.proofs.row_of.Reads as row-of-reads
 use Rattle.store_entries.proofs.set_settled.Reads as set-settled-reads
@@ -34,8 +34,8 @@ row-of-requires c κs = (Stores.framed (c .before .before .before .before .befor
 cast-row : tie.Need-cast-row
 cast-row c = search needs
 
-block-at-requires : tie.Need-block-at-requires
-block-at-requires c κs = (Stores.framed (c .before .before .before .before .before .before .before .args .store .now) (c .before .before .before .before .before .before .before .pre .0), c .before .before .before .before .before .before .before .pre .1)
+block-start-requires : tie.Need-block-start-requires
+block-start-requires c κs = (Stores.framed (c .before .before .before .before .before .before .before .args .store .now) (c .before .before .before .before .before .before .before .pre .0), c .before .before .before .before .before .before .before .pre .1)
 
 add-b : tie.Need-add-b
 add-b c = search needs
@@ -56,13 +56,13 @@ settle-block-requires c κs =
     let g = o .pre .0 in
     let l = o .pre .1 in
     let i = o .args .index in
-    let a = c .before .block-at .result in
-    let p = c .before .block-at .ensures .0 in
+    let a = c .before .block-start .result in
+    let p = c .before .block-start .ensures .0 in
     let v = Stores.valid-station s g i l in
     let row = c .before .before .before .row-of .ensures in (
-      Stores.part-length s g i l a (a + 684) p refl,
+      Stores.part-length s g i l a _ p refl,
       omega (arith, v .row),
-      subst (λ (x : Block). ValidSheet (x .raw)) (sym (Stores.part-block s g i l a (a + 684) p refl)) (v .block .raw),
+      subst (λ (x : Block). ValidSheet (x .raw)) (sym (Stores.part-block s g i l a _ p refl)) (v .block .raw),
     )
 
 set-settled-requires : tie.Need-set-settled-requires
@@ -72,11 +72,11 @@ set-settled-requires c κs =
     let g = o .pre .0 in
     let l = o .pre .1 in
     let i = o .args .index in
-    let a = c .before .before .before .before .before .block-at .result in
-    let p = c .before .before .before .before .before .block-at .ensures .0 in
+    let a = c .before .before .before .before .before .block-start .result in
+    let p = c .before .before .before .before .before .block-start .ensures .0 in
     let ys = c .before .before .before .settle-block .last .0 in
-    let e = c .before .before .before .settle-block .kept .0 ∙ Stores.part-length s g i l a (a + 684) p refl in
-    (Stores.back-framed s g i l a (a + 684) p refl ys e, subst (λ (n : ℕ). i < n) (sym (Stores.back-count s g i l a (a + 684) p refl ys e)) l)
+    let e = c .before .before .before .settle-block .kept .0 ∙ Stores.part-length s g i l a _ p refl in
+    (Stores.back-framed s g i l a _ p refl ys e, subst (λ (n : ℕ). i < n) (sym (Stores.back-count s g i l a _ p refl ys e)) l)
 
 same-length : tie.Need-same-length
 same-length c =
@@ -85,11 +85,11 @@ same-length c =
     let g = o .pre .0 in
     let l = o .pre .1 in
     let i = o .args .index in
-    let a = c .before .before .before .before .before .before .before .before .block-at .result in
-    let p = c .before .before .before .before .before .before .before .before .block-at .ensures .0 in
+    let a = c .before .before .before .before .before .before .before .before .block-start .result in
+    let p = c .before .before .before .before .before .before .before .before .block-start .ensures .0 in
     let ys = c .before .before .before .before .before .before .settle-block .last .0 in
-    let e = c .before .before .before .before .before .before .settle-block .kept .0 ∙ Stores.part-length s g i l a (a + 684) p refl in
-    c .before .before .set-settled .kept .0 ∙ Stores.back-length s g i l a (a + 684) p refl ys e
+    let e = c .before .before .before .before .before .before .settle-block .kept .0 ∙ Stores.part-length s g i l a _ p refl in
+    c .before .before .set-settled .kept .0 ∙ Stores.back-length s g i l a _ p refl ys e
 
 returns : tie.Need-returns
 returns c =
@@ -98,16 +98,16 @@ returns c =
     let g = o .pre .0 in
     let l = o .pre .1 in
     let i = o .args .index in
-    let a = c .before .before .before .before .before .before .before .before .block-at .result in
-    let p = c .before .before .before .before .before .before .before .before .block-at .ensures .0 in
+    let a = c .before .before .before .before .before .before .before .before .block-start .result in
+    let p = c .before .before .before .before .before .before .before .before .block-start .ensures .0 in
     let ys = c .before .before .before .before .before .before .settle-block .last .0 in
-    let e = c .before .before .before .before .before .before .settle-block .kept .0 ∙ Stores.part-length s g i l a (a + 684) p refl in
-    Stores.written s g i l a (a + 684) p refl ys e (c .before .before .set-settled .last .0) 1 (lit< tt)
+    let e = c .before .before .before .before .before .before .settle-block .kept .0 ∙ Stores.part-length s g i l a _ p refl in
+    Stores.written s g i l a _ p refl ys e (c .before .before .set-settled .last .0) 1 (lit< tt)
     (record { each = λ k. omega (arith, c .before .before .before .before .slice-known2 .given k) }) (c .before .before .set-settled .ensures)
     ∙ ap (λ (t : Station). encode (withStation i t (decode s)))
     (Stores.settled-as (dateOf (decode s)) (stationAt (decode s .stations) i) _ _ _ _ (c .before .before .before .before .before .before .before .before .before .before .row-of .ensures)
     (c .before .before .before .before .before .before .before .before .before .before .before .before .is-warm .ensures ∙ ap Rattle.quality.specs.Limits.warm (c .before .before .before .before .before .before .before .before .before .before .before .before .before .date-of .ensures .1))
-    (Stores.part-block s g i l a (a + 684) p refl) (c .before .before .before .before .before .before .settle-block .ensures))
+    (Stores.part-block s g i l a _ p refl) (c .before .before .before .before .before .before .settle-block .ensures))
 
 pub settle-at-spec : {M : Type 1} → statement M
 settle-at-spec =
@@ -117,7 +117,7 @@ settle-at-spec =
     is-warm-requires
     row-of-requires
     cast-row
-    block-at-requires
+    block-start-requires
     add-b
     sub-settle-block
     part-settle-block-start

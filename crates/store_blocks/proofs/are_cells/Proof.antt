@@ -12,7 +12,7 @@ use Rattle.store_blocks.proofs.are_cells.Statement.{statement}
 use Rattle.store_blocks.proofs.are_cells.Tie as tie
 
 abbrev Inv-loop : tie.InvT-loop
-Inv-loop store at states flags k₀ k = Passed (λ i. all (λ e. soundCell states flags store ((at + 36 * i) + cellLength * e)) 9) 9 k
+Inv-loop store at states flags k₀ k = Passed (λ i. all (λ e. soundCell states flags store ((at + cellLength * 9 * i) + cellLength * e)) 9) 9 k
 
 abbrev μ-loop : tie.MeasureT-loop
 μ-loop store at states flags k₀ k = 9 - k

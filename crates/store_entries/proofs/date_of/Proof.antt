@@ -12,11 +12,5 @@ returns c = (c .before .before .word-at .ensures, c .before .word-at2 .ensures, 
 pub date-of-spec : {M : Type 1} → statement M
 date-of-spec =
     tie.close
-    (tie.spec
-    (λ c κs. search needs)
-    (λ c. search needs)
-    (λ c κs. search needs)
-    (λ c. search needs)
-    (λ c κs. search needs)
-    (λ c. search needs)
+    (tie.spec (λ c κs. search needs) (λ c. search needs) (λ c κs. search needs) (λ c. search needs) (λ c κs. search needs) (λ c. search needs)
     returns)

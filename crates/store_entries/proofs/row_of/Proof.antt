@@ -12,10 +12,9 @@ use Rattle.store_entries.proofs.row_of.Tie as tie
 returns : tie.Need-returns
 unfolding decodeStation
 returns c =
-    let a = c .before .before .args in
-    c .word-at .ensures ∙ ap (λ (t : Station). t .row) (sym (station-at (now (a .store)) (a .index) (search needs)))
+    let a = c .before .before .before .args in
+    (rw (c .before .entry-at .ensures) at (c .word-at .ensures)) ∙ ap (λ (t : Station). t .row) (sym (station-at (now (a .store)) (a .index) (search needs)))
 
 pub row-of-spec : {M : Type 1} → statement M
 row-of-spec =
-    tie.close
-    (tie.spec (λ c. search needs) (λ c. search needs) (λ c. search needs) (λ c κs. search needs) returns)
+    tie.close (tie.spec (λ c κs. search needs) (λ c. search needs) (λ c κs. search needs) returns)

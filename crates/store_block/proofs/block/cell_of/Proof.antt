@@ -11,7 +11,7 @@ use Rattle.store_block.proofs.block.cell_of.Tie as tie
 returns : tie.Need-returns
 returns c =
     let a = c .before .before .before .args in
-    c .datum-at .ensures ∙ ap (decodeCell (now (a .block))) (c .before .cell-at .ensures .0) ∙ sym (cell-read (a .area) (now (a .block)) (a .element) (a .k) (search needs) (search needs))
+    c .cell-in .ensures ∙ ap (decodeCell (now (a .block))) (c .before .cell-at .ensures .0) ∙ sym (cell-read (a .area) (now (a .block)) (a .element) (a .k) (search needs) (search needs))
 
 pub cell-of-spec : {M : Type 1} → statement M
 cell-of-spec =

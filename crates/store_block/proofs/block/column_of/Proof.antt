@@ -20,12 +20,9 @@ Inv-loop block area element c₀ k₀ c k = Done (λ j. decodeCell block (cellAt
 abbrev μ-loop : tie.MeasureT-loop
 μ-loop block area element c₀ k₀ c k = 9 - k
 
-loop-holds : tie.Need-loop-holds Inv-loop μ-loop
-loop-holds c = empty _ _ 9 _ (length-cells _)
-
 loop-again : tie.Need-loop-again Inv-loop μ-loop
 loop-again c = rw (c .put .ensures) (more _ (c .before .before .before .before .loop .inv) (search needs)
-    (c .before .datum-at .ensures ∙ ap (decodeCell (now (c .before .before .before .before .before .before .before .args .block))) (c .before .before .cell-at .ensures .0)))
+    (c .before .cell-in .ensures ∙ ap (decodeCell (now (c .before .before .before .before .before .before .before .args .block))) (c .before .before .cell-at .ensures .0)))
 
 returns : tie.Need-returns Inv-loop μ-loop
 returns c =
@@ -35,15 +32,5 @@ returns c =
 pub column-of-spec : {M : Type 1} → statement M
 column-of-spec =
     tie.close
-    (tie.spec
-    Inv-loop
-    μ-loop
-    (λ c κs. search needs)
-    loop-holds
-    (λ c κs. search needs)
-    (λ c κs. search needs)
-    (λ c κs. search needs)
-    (λ c. search needs)
-    (λ c. search needs)
-    loop-again
-    returns)
+    (tie.spec Inv-loop μ-loop (λ c κs. search needs) (λ c. empty _ _ 9 _ (length-cells _))
+    (λ c κs. search needs) (λ c κs. search needs) (λ c κs. search needs) (λ c. search needs) (λ c. search needs) loop-again returns)

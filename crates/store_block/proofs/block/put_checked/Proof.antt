@@ -23,9 +23,6 @@ Inv-loop block₀ element c k₀ block k =
 abbrev μ-loop : tie.MeasureT-loop
 μ-loop block₀ element c k₀ block k = 9 - k
 
-loop-holds : tie.Need-loop-holds Inv-loop μ-loop
-loop-holds c = begun _ _ none _ _ (search needs) (nine-cells Checked (now (c .before .args .block)) (c .before .args .element) (search needs)) (column-own Checked _ _)
-
 loop-again : tie.Need-loop-again Inv-loop μ-loop
 loop-again c =
     let h = c .before .before .before .before .before .before .loop .inv in
@@ -34,20 +31,12 @@ loop-again c =
     more h _ _ (search needs) (p .kept .0) (c .before .before .before .at .ensures)
     (p .ensures ∙ ap (withCell Checked _ _ _) (h .reads) ∙ column-cell Checked _ _ (h .xs) _ (decodeBlock b) (rw (nine-columns Checked b) (search needs)))
 
-returns : tie.Need-returns Inv-loop μ-loop
-returns c = whole-list (cells (c .before .before .before .args .c)) (c .before .loop .inv) (search needs) (length-cells _)
-
 pub put-checked-spec : {M : Type 1} → statement M
 put-checked-spec =
     tie.close
-    (tie.spec
-    Inv-loop
-    μ-loop
-    loop-holds
-    (λ c κs. search needs)
-    (λ c κs. search needs)
-    (λ c. search needs)
-    (λ c. search needs)
-    loop-again
-    (λ c. search needs)
-    returns)
+    (tie.spec Inv-loop μ-loop
+    (λ c.
+    let a = c .before .args in
+    begun _ _ none _ _ (search needs) (nine-cells Checked (now (a .block)) (a .element) (search needs)) (column-own Checked _ _))
+    (λ c κs. search needs) (λ c κs. search needs) (λ c. search needs) (λ c. search needs) loop-again (λ c. search needs)
+    (λ c. whole-list (cells (c .before .before .before .args .c)) (c .before .loop .inv) (search needs) (length-cells _)))

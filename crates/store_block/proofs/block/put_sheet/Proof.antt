@@ -23,32 +23,21 @@ Inv-loop block₀ columns e₀ block e =
 abbrev μ-loop : tie.MeasureT-loop
 μ-loop block₀ columns e₀ block e = 9 - e
 
-loop-holds : tie.Need-loop-holds Inv-loop μ-loop
-unfolding withChecked
-loop-holds c = begun _ _ [] _ _ (search needs) (nine-columns Checked _) refl
-
 loop-again : tie.Need-loop-again Inv-loop μ-loop
 unfolding withChecked
 loop-again c =
-    let h = c .before .before .before .before .before .before .loop .inv in
+    let l = c .before .before .before .before .before .before .loop in
     let p = c .before .before .put-checked in
-    more h _ _ (search needs) (p .kept .0) (sym (map-at cells (c .before .before .before .before .before .before .before .before .args .t2) (c .before .before .before .before .before .before .loop .e) (record { values = []; states = []; flags = [] }) [] (search needs))) (p .ensures ∙ ap (withColumn Checked _ _) (h .reads))
-
-returns : tie.Need-returns Inv-loop μ-loop
-returns c = whole-list (sheet (c .before .before .before .args .t2)) (c .before .loop .inv) (search needs) (length-map (c .before .before .before .args .t2) cells ∙ search needs)
+    more (l .inv) _ _ (search needs) (p .kept .0)
+    (sym (map-at cells (c .before .before .before .before .before .before .before .before .args .t2) (l .e) (record { values = []; states = []; flags = [] }) [] (search needs)))
+    (p .ensures ∙ ap (withColumn Checked _ _) (l .inv .reads))
 
 pub put-sheet-spec : {M : Type 1} → statement M
+unfolding withChecked
 put-sheet-spec =
     tie.close
-    (tie.spec
-    Inv-loop
-    μ-loop
-    loop-holds
-    (λ c. search needs)
-    (λ c. search needs)
-    (λ c κs. search needs)
-    (λ c. search needs)
-    (λ c. search needs)
-    loop-again
-    (λ c. search needs)
-    returns)
+    (tie.spec Inv-loop μ-loop (λ c. begun _ _ [] _ _ (search needs) (nine-columns Checked _) refl)
+    (λ c. search needs) (λ c. search needs) (λ c κs. search needs) (λ c. search needs) (λ c. search needs) loop-again (λ c. search needs)
+    (λ c.
+    let a = c .before .before .before .args in
+    whole-list (sheet (a .t2)) (c .before .loop .inv) (search needs) (length-map (a .t2) cells ∙ search needs)))

@@ -3,20 +3,22 @@
 use mathlib.Core.Path.{refl, _∙_, ap}
 use mathlib.Core.List.{[], map}
 use Prim.Native.Nat.{_-_}
+use native.Mathlib.Nat.{le-refl}
+use borrow.Author.Needs.{needs}
+use denote.Ref.{now}
 use lib.ListN.{set}
+use Rattle.laws.specs.Table.{table}
 use Rattle.quality.specs.Cell.{none, slot}
 use Rattle.quality.specs.Coded.{cell}
 use Rattle.quality.specs.Elements.{column}
+use Rattle.store_layout.specs.Model.{Block}
 use Rattle.store_layout.specs.Layout.{decodeBlock}
 use Rattle.store_layout.specs.Updates.{withSlot}
 use Rattle.store_block.specs.declared.block.Area.the-variants.{Raw}
 use Rattle.store_block.specs.Areas.{withSheet, withCell}
+use Rattle.store_block.proofs.BlockWrites.{head-put}
 use Rattle.store_block.proofs.Filling.{Filling, begun, more, whole}
 use Rattle.store_block.proofs.Sheets.{nine-columns, map-at}
-use Rattle.laws.specs.Table.{table}
-use Rattle.store_layout.specs.Model.{Block}
-use native.Mathlib.Nat.{le-refl}
-use borrow.Author.Needs.{needs}
 use Rattle.store_block.proofs.block.put_slot.Statement.{statement}
 use Rattle.store_block.proofs.block.put_slot.Tie as tie
 
@@ -27,15 +29,13 @@ Inv-loop block₀ k raw e₀ block e =
 abbrev μ-loop : tie.MeasureT-loop
 μ-loop block₀ k raw e₀ block e = 9 - e
 
-loop-holds : tie.Need-loop-holds Inv-loop μ-loop
-loop-holds c = begun _ _ [] _ _ (search needs) (nine-columns Raw _) refl
-
 loop-again : tie.Need-loop-again Inv-loop μ-loop
 loop-again c =
-    let h = c .before .before .before .before .before .before .loop .inv in
+    let l = c .before .before .before .before .before .before .loop in
+    let h = l .inv in
     let p = c .before .before .put-cell in
     more h _ _ (search needs) (p .kept .0)
-    (rw (h .rest _ (le-refl _), map-at cell (c .before .before .before .before .before .before .before .before .before .before .before .before .args .t4) (c .before .before .before .before .before .before .loop .e) (record { state = 0; flag = 0; value = 0 }) none (search needs)))
+    (rw (h .rest _ (le-refl _), map-at cell (c .before .before .before .before .before .before .before .before .before .before .before .before .args .t4) (l .e) (record { state = 0; flag = 0; value = 0 }) none (search needs)))
     (p .ensures ∙ ap (withCell Raw _ _ _) (h .reads))
 
 returns : tie.Need-returns Inv-loop μ-loop
@@ -43,21 +43,12 @@ unfolding withSlot
 returns c =
     let a = c .before .before .before .before .before .before .before .args in
     whole (c .before .loop .inv) (search needs)
-    ∙ ap (λ (b : Block). withSheet Raw (table 9 (λ x. set (column (b .raw) x) (a .k) (slot (map cell (a .t4)) x))) b) (c .before .before .before .before .put-head .ensures)
+    ∙ ap (λ (b : Block). withSheet Raw (table 9 (λ x. set (column (b .raw) x) (a .k) (slot (map cell (a .t4)) x))) b)
+    (head-put (now (a .block)) _ (search needs) (a .k) (search needs) (a .h) (c .before .before .before .before .put-head .ensures))
 
 pub put-slot-spec : {M : Type 1} → statement M
 put-slot-spec =
     tie.close
-    (tie.spec
-    Inv-loop
-    μ-loop
-    (λ c κs. search needs)
-    loop-holds
-    (λ c. search needs)
-    (λ c. search needs)
-    (λ c κs. search needs)
-    (λ c. search needs)
-    (λ c. search needs)
-    loop-again
-    (λ c. search needs)
-    returns)
+    (tie.spec Inv-loop μ-loop (λ c. search needs) (λ c κs. search needs)
+    (λ c. begun _ _ [] _ _ (search needs) (nine-columns Raw _) refl)
+    (λ c. search needs) (λ c. search needs) (λ c κs. search needs) (λ c. search needs) (λ c. search needs) loop-again (λ c. search needs) returns)

@@ -17,9 +17,6 @@ Inv-loop block area r₀ e₀ r e = Done (cellsAt area block) [] 9 (sheet r) e
 abbrev μ-loop : tie.MeasureT-loop
 μ-loop block area r₀ e₀ r e = 9 - e
 
-loop-holds : tie.Need-loop-holds Inv-loop μ-loop
-loop-holds c = empty _ _ 9 _ refl
-
 loop-again : tie.Need-loop-again Inv-loop μ-loop
 loop-again c =
     let a = c .before .before .before .before .before .args in
@@ -35,15 +32,5 @@ returns c =
 pub sheet-of-spec : {M : Type 1} → statement M
 sheet-of-spec =
     tie.close
-    (tie.spec
-    Inv-loop
-    μ-loop
-    (λ c κs. search needs)
-    loop-holds
-    (λ c κs. search needs)
-    (λ c. search needs)
-    (λ c. search needs)
-    (λ c. search needs)
-    (λ c. search needs)
-    loop-again
-    returns)
+    (tie.spec Inv-loop μ-loop (λ c κs. search needs) (λ c. empty _ _ 9 _ refl)
+    (λ c κs. search needs) (λ c. search needs) (λ c. search needs) (λ c. search needs) (λ c. search needs) loop-again returns)

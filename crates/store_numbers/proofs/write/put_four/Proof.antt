@@ -22,13 +22,5 @@ returns c = simp towards-suc
 pub put-four-spec : {M : Type 1} → statement M
 put-four-spec =
     tie.close
-    (tie.spec
-    (λ c. search needs)
-    (λ c. search needs)
-    slice-write-store-2
-    (λ c. search needs)
-    slice-write-store-3
-    (λ c. search needs)
-    slice-write-store-4
-    (λ c. search needs)
-    returns)
+    (tie.spec (λ c. search needs) (λ c. search needs) slice-write-store-2 (λ c. search needs) slice-write-store-3 (λ c. search needs)
+    slice-write-store-4 (λ c. search needs) returns)

@@ -16,11 +16,4 @@ returns c = simp towards-suc
 pub put-word-spec : {M : Type 1} → statement M
 put-word-spec =
     tie.close
-    (tie.spec
-    (λ c. search needs)
-    (λ c. search needs)
-    (λ c. search needs)
-    (λ c. search needs)
-    slice-write-store-2
-    (λ c. search needs)
-    returns)
+    (tie.spec (λ c. search needs) (λ c. search needs) (λ c. search needs) (λ c. search needs) slice-write-store-2 (λ c. search needs) returns)

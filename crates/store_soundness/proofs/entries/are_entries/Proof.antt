@@ -22,7 +22,7 @@ abbrev μ-loop : tie.MeasureT-loop
 loop-holds : tie.Need-loop-holds Inv-loop μ-loop
 loop-holds c = (none _ _, refl)
 
-tested : (c : tie.After-is-entry Inv-loop μ-loop) → c .is-entry .result ≡ entryInOrder (now (c .before .before .before .before .before .before .before .args .store)) (c .before .before .before .before .before .loop .i)
+tested : (c : tie.After-is-entry Inv-loop μ-loop) → c .is-entry .result ≡ entryInOrder (now (c .before .before .before .before .before .before .before .before .args .store)) (c .before .before .before .before .before .before .loop .i)
 unfolding soundEntry
 tested c =
     rw (
@@ -30,18 +30,19 @@ tested c =
       c .before .word-at2 .ensures,
       c .before .before .word-at .ensures,
       c .before .before .before .long-at .ensures,
-      c .before .before .before .before .before .loop .inv .1,
+      c .before .before .before .before .entry-at .ensures,
+      c .before .before .before .before .before .before .loop .inv .1,
     )
 
 returns : tie.Need-returns Inv-loop μ-loop
 returns c =
-    let a = c .before .before .before .before .before .before .before .before .args in
-    stopped (c .before .before .before .before .before .before .loop .inv .0) (search needs) _ (tested (c .before)) (c .if1 .taken) ∙ entries-in-turn (now (a .store)) (a .n)
+    let a = c .before .before .before .before .before .before .before .before .before .args in
+    stopped (c .before .before .before .before .before .before .before .loop .inv .0) (search needs) _ (tested (c .before)) (c .if1 .taken) ∙ entries-in-turn (now (a .store)) (a .n)
 
 loop-again : tie.Need-loop-again Inv-loop μ-loop
 loop-again c = (
-  more (c .before .before .before .before .before .before .loop .inv .0) (search needs) _ (tested (c .before)) (c .if1 .left),
-  rw add-one (c .before .before .before .before .long-at .ensures),
+  more (c .before .before .before .before .before .before .before .loop .inv .0) (search needs) _ (tested (c .before)) (c .if1 .left),
+  rw (add-one, ← c .before .before .before .before .before .entry-at .ensures) (c .before .before .before .before .long-at .ensures),
 )
 
 returns-2 : tie.Need-returns-2 Inv-loop μ-loop
@@ -54,8 +55,7 @@ are-entries-spec =
     Inv-loop
     μ-loop
     loop-holds
-    (λ c. search needs)
-    (λ c. search needs)
+    (λ c κs. search needs)
     (λ c κs. search needs)
     (λ c. search needs)
     (λ c κs. search needs)

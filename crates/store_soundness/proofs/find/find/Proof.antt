@@ -21,17 +21,21 @@ abbrev μ-loop : tie.MeasureT-loop
 loop-holds : tie.Need-loop-holds Inv-loop μ-loop
 loop-holds c = (search needs, below-none _)
 
+-- the number at i
+read : (c : tie.After-long-at Inv-loop μ-loop) → c .long-at .result ≡ long (now (c .before .before .before .before .before .before .args .store)) (entryAt (c .before .before .before .loop .i))
+read c = rw (c .before .entry-at .ensures) at (c .long-at .ensures)
+
 returns : tie.Need-returns Inv-loop μ-loop
 returns c =
-    let a = c .before .before .before .before .before .before .args in
-    let l = c .before .before .before .loop in
+    let a = c .before .before .before .before .before .before .before .args in
+    let l = c .before .before .before .before .loop in
     ap placed
-    (sym (found (now (a .store)) (a .station) _ (c .before .before .before .before .word-at .ensures) (l .i) (search needs) (l .inv .1) (sym (c .before .long-at .ensures) ∙ c .if1 .taken)))
+    (sym (found (now (a .store)) (a .station) _ (c .before .before .before .before .before .word-at .ensures) (l .i) (search needs) (l .inv .1) (sym (read (c .before)) ∙ c .if1 .taken)))
 
 loop-again : tie.Need-loop-again Inv-loop μ-loop
 loop-again c = (
   search needs,
-  below-more _ _ (c .before .before .before .loop .inv .1) (λ e. c .if1 .left (c .before .long-at .ensures ∙ e)),
+  below-more _ _ (c .before .before .before .before .loop .inv .1) (λ e. c .if1 .left (read (c .before) ∙ e)),
 )
 
 returns-2 : tie.Need-returns-2 Inv-loop μ-loop
@@ -48,8 +52,7 @@ find-spec =
     (λ c κs. search needs)
     (λ c. search needs)
     loop-holds
-    (λ c. search needs)
-    (λ c. search needs)
+    (λ c κs. search needs)
     (λ c κs. search needs)
     returns
     (λ c. search needs)

@@ -1,0 +1,2 @@
+-- How long a buffer can be.
+pub mod Room
