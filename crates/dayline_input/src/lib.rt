@@ -1,6 +1,7 @@
-// The input of the program `dayline`, read in pieces: how many bytes a read gave, and the first line.
+// The input of the program `dayline`, read in pieces: what a read gave, and the first line.
+ghost use lib.ListN.{length};
 ghost use Rattle.io.specs.Counts.{Counts};
-ghost use Rattle.dayline_input.specs.Input.{Placed};
+ghost use Rattle.dayline_input.specs.Input.{Gave, Reads, Takes, Begins};
 use dayline_text::cut::find;
 use dayline_text::first_line;
 use dayline_text::first_line::Line;
@@ -11,14 +12,49 @@ pub struct Got {
     pub failed: bool,
 }
 
+// What the system's answer to a read says.
+fn got_of(answer: isize, piece: &[u8]) -> Got
+    ensures { λ r. ⌜ Gave answer (length (now (piece .entry))) r ⌝ }
+{
+    Got {
+        count: io::count(answer, piece),
+        failed: answer < 0,
+    }
+}
+
+// The next piece of the input, at the start of the buffer.
 pub fn read(piece: &mut [u8]) -> Got
     ensures { λ r. ⌜ Counts (r .count) (now (piece .exit)) ⌝ }
+    ensures { λ r. ⌜ Reads (now (piece .exit)) r ⌝ }
 {
-    let got = libc::read(libc::STDIN_FILENO, piece);
-    let failed = got < 0;
-    Got {
-        count: io::count(got, piece),
-        failed: failed,
+    let answer = libc::read(libc::STDIN_FILENO, piece);
+    got_of(answer, piece)
+}
+
+// The first line with the bytes of one piece more: whether it ended in it, and where the reports begin there.
+pub struct Taken {
+    pub line: Line,
+    pub ended: bool,
+    pub from: usize,
+}
+
+fn take_piece(l: Line, s: &[u8]) -> Taken
+    ensures { λ r. ⌜ Takes l (now (s .entry)) r ⌝ }
+{
+    let n = s.len();
+    let k = find(s, b'\n');
+    let line = first_line::piece(l, &s[..k]);
+    if k < n {
+        return Taken {
+            line: line,
+            ended: true,
+            from: k + 1,
+        };
+    }
+    Taken {
+        line: line,
+        ended: n == 0,
+        from: n,
     }
 }
 
@@ -30,31 +66,23 @@ pub struct Start {
     pub failed: bool,
 }
 
-// The first line: pieces are read until one holds its end. A proved loop has to end, so the pieces are counted down, from a number
-// that no run uses up.
+// The first line: pieces are read until it ends. A proved loop has to end, so the pieces are counted down, from a number that no run
+// uses up.
 pub fn first_line(piece: &mut [u8]) -> Start
-    ensures { λ r. ⌜ Placed (now (piece .exit)) (r .from) (r .got) ⌝ }
+    ensures { λ r. ⌜ Begins (now (piece .exit)) r ⌝ }
 {
     let mut l = first_line::new();
     let mut turns = u64::MAX;
     while turns > 0 {
         let got = read(piece);
         let n = got.count;
-        let k = find(&piece[..n], b'\n');
-        l = first_line::piece(l, &piece[..k]);
-        if k < n {
+        let taken = take_piece(l, &piece[..n]);
+        l = taken.line;
+        if taken.ended {
             return Start {
                 line: l,
-                from: k + 1,
+                from: taken.from,
                 got: n,
-                failed: false,
-            };
-        }
-        if n == 0 {
-            return Start {
-                line: l,
-                from: 0,
-                got: 0,
                 failed: got.failed,
             };
         }

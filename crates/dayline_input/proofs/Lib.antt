@@ -1,0 +1,2 @@
+-- The laws behind the reading of the first line.
+pub mod Beginnings
