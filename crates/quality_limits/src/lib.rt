@@ -1,9 +1,11 @@
 // The limits of the range step: a constant table of limit rows by element, climate row and season.
 ghost use mathlib.Core.Path.{_≡_};
-ghost use Prim.Native.Nat.{_<_, _/_, _%_};
-ghost use lib.Dec.{eqb};
+ghost use mathlib.Core.List.{map};
+ghost use Prim.Native.Nat.{_<_};
+ghost use Rattle.laws.specs.Table.{table};
 ghost use Rattle.quality.specs.Coded.{limitsOf};
 ghost use Rattle.quality.specs.Limits.{limits};
+ghost use Rattle.quality_limits.specs.Rows.{ofRow, rowLimits};
 use quality::limits::OffsetLimits;
 
 // The number that stands for 0.
@@ -50,12 +52,20 @@ const ROWS: [[u16; 4]; 36] = [
     [O - 220, O - 120, O + 320, O + 420], // M hill warm
 ];
 
+// The table, whose rows are all tested against the rule at once.
+fn rows() -> [[u16; 4]; 36]
+    ensures { λ r. ⌜ map ofRow r ≡ table 36 rowLimits ⌝ }
+{
+    ROWS
+}
+
 // A row of the table.
 fn limits_row(at: usize) -> OffsetLimits
     requires { ⌜ at < 36 ⌝ }
-    ensures { λ r. ⌜ limitsOf r ≡ limits (at / 4) (at / 2 % 2) (eqb (at % 2) 1) ⌝ }
+    ensures { λ r. ⌜ limitsOf r ≡ rowLimits at ⌝ }
 {
-    let l = ROWS[at];
+    let all = rows();
+    let l = all[at];
     OffsetLimits {
         min2: l[0],
         min1: l[1],
