@@ -50,6 +50,10 @@ and-right true b e = e
 and-right false true e = refl
 and-right false false e = e
 
+-- both of two that hold together
+pub both : {a b : Bool} → (a && b) ≡ true → (a ≡ true) × (b ≡ true)
+both {a} {b} e = (and-left a b e, and-right a b e)
+
 pub and-false-left : (a b : Bool) → a ≡ false → (a && b) ≡ false
 and-false-left a b p = rw p
 

@@ -6,10 +6,11 @@ use mathlib.Core.Bool.{Bool, true, false, _&&_}
 use mathlib.Core.List.{List, [], _∷_}
 use Prim.Native.Nat.{ℕ, zero, suc, _+_, _<_, _≤_, suc-le-suc, zero-le}
 use native.Mathlib.Nat.{le-of-suc-le-suc, not-suc-le-zero, eq-or-lt-of-le}
+use native.Mathlib.Decide.{ℕ-discrete}
 use native.Mathlib.Numerals.{add-one}
 use native.Mathlib.Omega.{arith}
-use lib.ListN.{length, getD}
-use lib.Seq.{ext-getD}
+use lib.ListN.{length, getD, set}
+use lib.Seq.{ext-getD, getD-set-same, getD-set-other}
 use Rattle.laws.specs.All.{all}
 use Rattle.laws.specs.Table.{table}
 use Rattle.laws.proofs.Bools.{and-left, and-right, and-true}
@@ -41,6 +42,18 @@ module _ {A : Type 0} where
       (λ i l. let l′ : i < n = subst (λ (m : ℕ). i < m) e l in h i l′ ∙ sym (getD-table n f i d l′))
 
 -- ---- a test at every number below a bound
+-- what holds of each entry, by its index, holds after an entry of which it holds is put in
+module _ {A : Type 0} (P : ℕ → A → Type 0) (d : A) where
+  pub set-each : (n : ℕ) (xs : List A) (k : ℕ) (x : A) → length xs ≡ n → P k x → ((j : ℕ) → j < n → P j (getD xs j d))
+      → (j : ℕ) → j < n → P j (getD (set xs k x) j d)
+  set-each n xs k x e p h j l = go (ℕ-discrete j k)
+    where
+      go : Dec (j ≡ k) → P j (getD (set xs k x) j d)
+      go (yes q) =
+          subst (λ (i : ℕ). P i (getD (set xs k x) i d)) (sym q)
+          (subst (P k) (sym (getD-set-same xs k x d (subst (λ (m : ℕ). k < m) (sym e) (subst (λ (i : ℕ). i < n) q l)))) p)
+      go (no q) = subst (P j) (sym (getD-set-other xs k j x d q)) (h j l)
+
 pub all-more : (p : ℕ → Bool) (i : ℕ) → all p (i + 1) ≡ (all p i && p i)
 all-more p i = rw add-one
 

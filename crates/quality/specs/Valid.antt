@@ -1,26 +1,52 @@
 -- Which cells, columns and sheets a sound store may hold (document 01, "The store").
 -- Assumes nothing.
 use mathlib.Core.Path.{_≡_}
+use mathlib.Core.Bool.{Bool, true, not, _&&_, _||_}
 use mathlib.Core.List.{List}
 use Prim.Native.Nat.{ℕ, _≤_, _<_}
-use lib.IntN.{ℤ, pos, natAbs}
+use lib.Dec.{leb}
+use lib.IntN.{natAbs}
 use lib.ListN.{length}
-use Rattle.quality.specs.Cell.{Cell, slot}
+use Rattle.quality.specs.Cell.{Cell, missing, slot}
 use Rattle.quality.specs.Elements.{column}
+use Rattle.quality.specs.Steps.{isZero}
 
--- "value (16 bits, signed, −32767 to 32767). States: 0 missing (value 0), .. 3 filled. Flags: 0 none, .. 4 suspect."
-pub record ValidCell (c : Cell) : Type 0 where
-  pub state : c .state ≤ 3
-  pub flag : c .flag ≤ 4
-  pub size : natAbs (c .value) ≤ 32767
-  pub empty : c .state ≡ 0 → c .value ≡ pos 0
+-- "state and flag (a byte each), value (16 bits, signed, −32767 to 32767). States: 0 missing (value 0), .."
+-- A cell of element e, with the largest state and flag that may stand there; one rule for all elements
+unfoldable pub isCell : ℕ → ℕ → ℕ → Cell → Bool
+isCell states flags e c =
+    leb (c .state) states && leb (c .flag) flags && leb (natAbs (c .value)) 32767 && (not (missing c) || isZero (c .value))
 
--- nine valid cells
-pub record ValidColumn (xs : List Cell) : Type 0 where
+pub record CellWithin (states flags e : ℕ) (c : Cell) : Type 0 where
+  pub test : isCell states flags e c ≡ true
+
+-- nine such cells of element e
+pub record ColumnWithin (states flags e : ℕ) (xs : List Cell) : Type 0 where
   pub long : length xs ≡ 9
-  pub each : (k : ℕ) → k < 9 → ValidCell (slot xs k)
+  pub each : (k : ℕ) → k < 9 → CellWithin states flags e (slot xs k)
 
--- nine valid columns
-pub record ValidSheet (s : List (List Cell)) : Type 0 where
+-- nine such columns
+pub record SheetWithin (states flags : ℕ) (s : List (List Cell)) : Type 0 where
   pub long : length s ≡ 9
-  pub each : (e : ℕ) → e < 9 → ValidColumn (column s e)
+  pub each : (e : ℕ) → e < 9 → ColumnWithin states flags e (column s e)
+
+-- "States: .. 3 filled. Flags: 0 none, .. 4 suspect."
+abbrev pub ValidCell : ℕ → Cell → Type 0
+ValidCell = CellWithin 3 4
+
+abbrev pub ValidColumn : ℕ → List Cell → Type 0
+ValidColumn = ColumnWithin 3 4
+
+abbrev pub ValidSheet : List (List Cell) → Type 0
+ValidSheet = SheetWithin 3 4
+
+-- "Raw cells have state 0 or 1, flag 0."
+abbrev pub RawCell : ℕ → Cell → Type 0
+RawCell = CellWithin 1 0
+
+abbrev pub RawSheet : List (List Cell) → Type 0
+RawSheet = SheetWithin 1 0
+
+-- a column without the value −32768, which has no negative
+pub record Sized (xs : List Cell) : Type 0 where
+  pub each : (k : ℕ) → k < 9 → natAbs (slot xs k .value) ≤ 32767

@@ -1,8 +1,9 @@
 // The time and fill steps: a value beside its neighbours in time.
 ghost use mathlib.Core.Path.{_≡_};
+ghost use Prim.Native.Nat.{_≤_};
+ghost use lib.IntN.{natAbs};
 ghost use Rattle.quality.specs.Coded.{cell};
 ghost use Rattle.quality.specs.Steps.{spikeCell, timeCell, fillCell};
-ghost use Rattle.quality.specs.Valid.{ValidCell};
 use crate::column::OffsetCell;
 use crate::column::discard;
 use crate::value::far;
@@ -12,7 +13,7 @@ use crate::value::negative;
 
 // A value x that differs from both neighbours: its negative where that is near both and the element mends, else discarded.
 fn mended(mends: bool, a: OffsetCell, x: OffsetCell, b: OffsetCell) -> OffsetCell
-    requires { ⌜ ValidCell (cell x) ⌝ }
+    requires { ⌜ natAbs (cell x .value) ≤ 32767 ⌝ }
     ensures { λ r. ⌜ cell r ≡ spikeCell mends (cell a) (cell x) (cell b) ⌝ }
 {
     let n = negative(x.value);
@@ -29,7 +30,7 @@ fn mended(mends: bool, a: OffsetCell, x: OffsetCell, b: OffsetCell) -> OffsetCel
 
 // The value x between its neighbours a and b in time: mended, discarded or kept.
 pub fn time_cell(mends: bool, a: OffsetCell, x: OffsetCell, b: OffsetCell) -> OffsetCell
-    requires { ⌜ ValidCell (cell x) ⌝ }
+    requires { ⌜ natAbs (cell x .value) ≤ 32767 ⌝ }
     ensures { λ r. ⌜ cell r ≡ timeCell mends (cell a) (cell x) (cell b) ⌝ }
 {
     let missing = (a.state == 0) | (x.state == 0) | (b.state == 0);

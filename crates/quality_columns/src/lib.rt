@@ -3,7 +3,7 @@ ghost use mathlib.Core.Path.{_≡_};
 ghost use Prim.Native.Nat.{_<_};
 ghost use Rattle.quality.specs.Coded.{cells, limitsOf};
 ghost use Rattle.quality.specs.Steps.{rangeColumn, dewColumn, windColumn, suspectAt, timeCell, fillCell, between};
-ghost use Rattle.quality.specs.Valid.{ValidColumn};
+ghost use Rattle.quality.specs.Valid.{Sized};
 use quality::column::Column;
 use quality::column::at;
 use quality::column::put;
@@ -61,7 +61,7 @@ pub fn suspect_at(c: Column, k: usize) -> Column
 
 // The time step on a column, slots 1 to 7; a temperature is mended.
 pub fn time_column(mends: bool, c: Column) -> Column
-    requires { ⌜ ValidColumn (cells c) ⌝ }
+    requires { ⌜ Sized (cells c) ⌝ }
     ensures { λ r. ⌜ cells r ≡ between (timeCell mends) (cells c) ⌝ }
 {
     let mut r = c;

@@ -4,7 +4,7 @@ ghost use mathlib.Core.Path.{_≡_};
 ghost use Prim.Native.Nat.{_<_};
 ghost use Rattle.quality.specs.Coded.{cells, sheet};
 ghost use Rattle.quality.specs.Settled.{timeOf, fillOf, range, internal, time, fill, settled};
-ghost use Rattle.quality.specs.Valid.{ValidColumn, ValidSheet};
+ghost use Rattle.quality.specs.Valid.{Sized, ValidSheet};
 use quality::column::Column;
 use quality::column::at;
 use quality::internal::maximum_below_minimum;
@@ -49,7 +49,7 @@ fn internal_all(dd: [u8; 9], s: [Column; 9]) -> [Column; 9]
 
 // The time step on the column of element e.
 fn time_element(e: usize, c: Column) -> Column
-    requires { ⌜ ValidColumn (cells c) ⌝ }
+    requires { ⌜ Sized (cells c) ⌝ }
     ensures { λ r. ⌜ cells r ≡ timeOf e (cells c) ⌝ }
 {
     if e <= 2 {

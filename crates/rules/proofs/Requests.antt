@@ -15,13 +15,13 @@ use Rattle.calendar.specs.declared.Slot.{Slot}
 use Rattle.calendar.specs.declared.Slot.the-variants.{At, Nothing}
 use Rattle.synop_codes.specs.Value.{Value, missing, read, Within}
 use Rattle.store_layout.specs.Model.{Block, Station, headOf}
-use Rattle.store_layout.specs.Valid.{RawCell, ValidBlock, ValidStation, isDirection}
+use Rattle.store_layout.specs.Valid.{ValidBlock, ValidStation, isDirection}
 use Rattle.store_layout.specs.Updates.{withBlock}
-use Rattle.store_layout.proofs.Validity.{valid-with-slot, valid-with-checked, valid-with-block}
+use Rattle.store_layout.proofs.Validity.{head-whole, valid-with-slot, valid-with-checked, valid-with-block}
 use Rattle.quality.specs.Cell.{none}
 use Rattle.quality.specs.Limits.{warm}
-use Rattle.quality.specs.Valid.{ValidCell}
-use Rattle.quality.proofs.Validity.{settled-keeps}
+use Rattle.quality.specs.Valid.{RawCell}
+use Rattle.quality.proofs.Validity.{cell-whole, none-valid, raw-sheet-valid, settled-keeps}
 use Rattle.synop.specs.Report.{Report, report}
 use Rattle.synop_contents.specs.declared.Indicators.{Indicators}
 use Rattle.synop_contents.specs.declared.Identification.{Identification}
@@ -50,7 +50,7 @@ unfolding rule
 lawful-day d t u v q = absurd (never q)
 
 -- ---- requests that make a new block and mark
-pub kept-block : (b : Block) (mark : ℕ) (t : Station) → ValidStation t → ValidBlock b → mark ≤ 1 → Kept t (withBlock b mark t)
+pub kept-block : (b : Block) (mark : ℕ) (t : Station) → ValidStation t → ValidBlock mark b → mark ≤ 1 → Kept t (withBlock b mark t)
 unfolding withBlock
 kept-block b mark t v w l = record { number = refl; valid = valid-with-block b mark t v w l }
 
@@ -58,8 +58,8 @@ pub kept-settled : (d : Date) (t : Station) → ValidStation t → Kept t (settl
 unfolding settledStation
 kept-settled d t v =
     kept-block _ 1 t v
-    (valid-with-checked _ (t .block) (v .block)
-    (settled-keeps (t .row) (warm (d .month)) (directions (t .block)) (t .block .raw) (v .block .raw)))
+    (valid-with-checked 1 _ (t .block) (v .block)
+    (settled-keeps (t .row) (warm (d .month)) (directions (t .block)) (t .block .raw) (raw-sheet-valid (t .block .raw) (v .block .raw))))
     (lit≤ tt)
 
 pub lawful-settling : Lawful settling
@@ -78,14 +78,10 @@ pub record Fits (head : Indicators) (values : List Value) : Type 0 where
 pub record ReportBounds : Type 0 where
   pub fits : (text : List ℕ) (h : Identification) (head : Indicators) (values : List Value) → report text ≡ Report.whole h head values → Fits head values
 
--- a value as a raw cell
-valid-raw : (v : Value) → Within v → ValidCell (rawCell v)
-valid-raw missing w = record { state = lit≤ tt; flag = lit≤ tt; size = lit≤ tt; empty = λ e. refl }
-valid-raw (read z) w = record { state = lit≤ tt; flag = lit≤ tt; size = w; empty = λ e. absurd (omega arith) }
-
-raw-raw : (v : Value) → RawCell (rawCell v)
-raw-raw missing = record { state = lit≤ tt; flag = refl }
-raw-raw (read z) = record { state = lit≤ tt; flag = refl }
+-- a value as a raw cell of element e
+valid-raw : (e : ℕ) (v : Value) → Within v → RawCell e (rawCell v)
+valid-raw e missing w = none-valid 1 0 e
+valid-raw e (read z) w = cell-whole (record { state = lit≤ tt; flag = lit≤ tt; size = w; empty = refl })
 
 raw-at : (values : List Value) (e : ℕ) → getD (map rawCell values) e none ≡ rawCell (getD values e missing)
 raw-at values e = List·getD-map rawCell values e missing
@@ -95,10 +91,9 @@ module _ (head : Indicators) (values : List Value) (f : Fits head values) where
   unfolding filed
   kept-filed k t v =
       kept-block _ 0 t v
-      (valid-with-slot k (filedHead head) (map rawCell values) (t .block) (v .block)
-      (record { filed = lit≤ tt; ir = f .indicator; tr = f .duration; dd = f .direction })
-      (λ e l. subst ValidCell (sym (raw-at values e)) (valid-raw (getD values e missing) (f .value e l)))
-      (λ e l. subst RawCell (sym (raw-at values e)) (raw-raw (getD values e missing))))
+      (valid-with-slot 0 k (filedHead head) (map rawCell values) (t .block) (v .block)
+      (head-whole (filedHead head) (record { filed = lit≤ tt; ir = f .indicator; tr = f .duration; dd = f .direction }))
+      (λ e l. subst (RawCell e) (sym (raw-at values e)) (valid-raw e (getD values e missing) (f .value e l))))
       (lit≤ tt)
 
   pub lawful-take : (yy gg : ℕ) → Lawful (take yy gg head values)

@@ -16,13 +16,13 @@ in-row at from j = omega arith
 
 module _ (s : List ℕ) (at : ℕ) where
   side-by-side : (states flags from : ℕ)
-      → all (λ j. soundCell states flags s (at + (from + cellLength * cellIndex (cellElement j) (cellSlot j)))) 81
-      ≡ all (λ j. soundCell states flags s (at + from + cellLength * j)) 81
-  side-by-side states flags from = all-ext _ _ 81 (λ j l. ap (soundCell states flags s) (in-row at from j))
+      → all (λ j. soundCell states flags (cellElement j) s (at + (from + cellLength * cellIndex (cellElement j) (cellSlot j)))) 81
+      ≡ all (λ j. soundCell states flags (cellElement j) s (at + from + cellLength * j)) 81
+  side-by-side states flags from = all-ext _ _ 81 (λ j l. ap (soundCell states flags (cellElement j) s) (in-row at from j))
 
-  pub block-in-turn : soundBlock s at
+  pub block-in-turn : (settled : ℕ) → soundBlock settled s at
       ≡ (all (λ k. soundHead s (at + headAt k)) 9
-      && all (λ j. soundCell 1 0 s (at + rawFrom + cellLength * j)) 81
-      && all (λ j. soundCell 3 4 s (at + checkedFrom + cellLength * j)) 81)
+      && all (λ j. soundCell 1 0 (cellElement j) s (at + rawFrom + cellLength * j)) 81
+      && all (λ j. soundCell 3 4 (cellElement j) s (at + checkedFrom + cellLength * j)) 81)
   unfolding soundBlock
-  block-in-turn = rw (side-by-side 1 0 rawFrom, side-by-side 3 4 checkedFrom)
+  block-in-turn settled = rw (side-by-side 1 0 rawFrom, side-by-side 3 4 checkedFrom)

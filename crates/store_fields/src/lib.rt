@@ -1,28 +1,31 @@
 // Whether the numbers of a slot head, of a cell and of a station's entry may stand in a store, by document 01's "The store".
 ghost use mathlib.Core.Path.{_≡_};
-ghost use mathlib.Core.Bool.{not, _&&_, _||_};
-ghost use lib.Dec.{leb, ltb, eqb};
-ghost use Rattle.store_layout.specs.Valid.{isDirection};
+ghost use mathlib.Core.Bool.{_&&_};
+ghost use lib.Dec.{ltb};
+ghost use Rattle.quality.specs.Valid.{isCell};
+ghost use Rattle.store_layout.specs.Layout.{signed};
+ghost use Rattle.store_layout.specs.Sound.{isEntry};
+ghost use Rattle.store_layout.specs.Valid.{isHead};
+use quality::head::SlotHead;
 
-// A slot head's four bytes.
-pub fn is_head(filed: u8, ir: u8, tr: u8, dd: u8) -> bool
-    ensures { λ r. ⌜ r ≡ (leb filed 1 && leb ir 5 && leb tr 9 && isDirection dd) ⌝ }
+pub fn is_head(h: SlotHead) -> bool
+    ensures { λ r. ⌜ r ≡ isHead h ⌝ }
 {
-    if 1 < filed {
+    if 1 < h.filed {
         return false;
     }
-    if 5 < ir {
+    if 5 < h.ir {
         return false;
     }
-    if 9 < tr {
+    if 9 < h.tr {
         return false;
     }
-    (dd <= 36) | (dd == 99) | (dd == 100)
+    (h.dd <= 36) | (h.dd == 99) | (h.dd == 100)
 }
 
-// A cell, with the largest state and flag that may stand there.
-pub fn is_cell(state: u8, flag: u8, value: u16, states: u8, flags: u8) -> bool
-    ensures { λ r. ⌜ r ≡ (leb state states && leb flag flags && not (eqb value 32768) && (ltb 0 state || eqb value 0)) ⌝ }
+// A cell of an element, its value in two's complement, with the largest state and flag that may stand there.
+pub fn is_cell(element: usize, state: u8, flag: u8, value: u16, states: u8, flags: u8) -> bool
+    ensures { λ r. ⌜ r ≡ isCell states flags element (record { state = state; flag = flag; value = signed value }) ⌝ }
 {
     if states < state {
         return false;
@@ -33,12 +36,12 @@ pub fn is_cell(state: u8, flag: u8, value: u16, states: u8, flags: u8) -> bool
     if value == 32768 {
         return false;
     }
-    (0 < state) | (value == 0)
+    (state != 0) | (value == 0)
 }
 
 // A station's entry, with a number above the one before.
 pub fn is_entry(last: u32, number: u32, row: u16, settled: u16) -> bool
-    ensures { λ r. ⌜ r ≡ (ltb last number && (leb 1 number && leb number 99999 && leb row 1 && leb settled 1)) ⌝ }
+    ensures { λ r. ⌜ r ≡ (ltb last number && isEntry number row settled) ⌝ }
 {
     (last < number) & ((1 <= number) & (number <= 99999) & (row <= 1) & (settled <= 1))
 }

@@ -18,7 +18,8 @@ use Rattle.laws.specs.Table.{table}
 use Rattle.laws.proofs.Tables.{getD-table, is-table, length-table}
 use Rattle.quality.specs.Cell.{Cell, none, slot}
 use Rattle.quality.specs.Elements.{column}
-use Rattle.quality.specs.Valid.{ValidSheet}
+use Rattle.quality.proofs.Validity.{cell-parts}
+use Rattle.quality.specs.Valid.{SheetWithin}
 use Rattle.store_layout.specs.Model.{Block, unfiled, headOf}
 use Rattle.store_layout.specs.Valid.{ValidBlock}
 use Rattle.store_layout.specs.Layout.{blockLength, headLength, cellLength, sheetLength, rawFrom, checkedFrom, cellIndex, cellElement, cellSlot, headAt, rawAt, checkedAt, pieces, decodeHead, encodeHead, decodeCell, encodeCell, decodeBlock, encodeSheet, encodeBlock}
@@ -166,10 +167,10 @@ pub record Shaped (b : Block) : Type 0 where
   pub raw : Square (b .raw)
   pub checked : Square (b .checked)
 
-pub square-valid : {sh : List (List Cell)} → ValidSheet sh → Square sh
+pub square-valid : {states flags : ℕ} {sh : List (List Cell)} → SheetWithin states flags sh → Square sh
 square-valid v = record { long = v .long; each = λ e l. v .each e l .long }
 
-pub shaped-valid : {b : Block} → ValidBlock b → Shaped b
+pub shaped-valid : {settled : ℕ} {b : Block} → ValidBlock settled b → Shaped b
 shaped-valid v = record { nine = v .nine; raw = square-valid (v .raw); checked = square-valid (v .checked) }
 
 pub square-read : (s : List ℕ) (a : ℕ) → Square (sheetFrom s a)
@@ -202,15 +203,15 @@ block-ext s b v h r c =
     }
 
 -- so what is read where a valid block's bytes lie is the block
-pub block-read : (s : List ℕ) (b : Block) → ValidBlock b → Laid s b → decodeBlock s ≡ b
+pub block-read : {settled : ℕ} (s : List ℕ) (b : Block) → ValidBlock settled b → Laid s b → decodeBlock s ≡ b
 block-read s b v h =
     block-ext s b (shaped-valid v)
     (λ k l. sym (head-same (same-is {n = headLength} (h .heads k l)) ∙ head-bytes (headOf b k)))
-    (λ e k l m. cell (slot (column (b .raw) e) k) (rawAt e k) (h .raw e k l m) (v .raw .each e l .each k m .size))
-    (λ e k l m. cell (slot (column (b .checked) e) k) (checkedAt e k) (h .checked e k l m) (v .checked .each e l .each k m .size))
+    (λ e k l m. cell (slot (column (b .raw) e) k) (rawAt e k) (h .raw e k l m) (cell-parts (v .raw .each e l .each k m) .size))
+    (λ e k l m. cell (slot (column (b .checked) e) k) (checkedAt e k) (h .checked e k l m) (cell-parts (v .checked .each e l .each k m) .size))
   where
     cell : (c : Cell) (p : ℕ) → take cellLength (drop p s) ≡ encodeCell c → natAbs (c .value) ≤ 32767 → c ≡ decodeCell s p
     cell c p e z = sym (cell-same (same-is {n = cellLength} e) ∙ cell-bytes c z)
 
-pub decode-encode-block : (b : Block) → ValidBlock b → decodeBlock (encodeBlock b) ≡ b
+pub decode-encode-block : {settled : ℕ} (b : Block) → ValidBlock settled b → decodeBlock (encodeBlock b) ≡ b
 decode-encode-block b v = block-read (encodeBlock b) b v (record { heads = head-in b; raw = raw-in b; checked = checked-in b })

@@ -1,5 +1,4 @@
 -- Laws of the store's layout that this crate's proofs, and those of the crates above, cite.
-pub mod Chains
 pub mod TableSet
 pub mod Numbers
 pub mod Bytes

@@ -5,11 +5,14 @@
 --     value-signed, unsigned-value          two's complement and offset binary
 -- Assumes nothing.
 use mathlib.Core.Path.{_≡_, sym, _∙_, ap}
+use mathlib.Core.Bool.{not}
 use mathlib.Core.List.{List, [], _∷_}
-use Prim.Native.Nat.{ℕ, _+_, _*_, _-_, _/_, _%_, _<_, _≤_}
+use Prim.Native.Nat.{ℕ, suc, _+_, _*_, _-_, _/_, _%_, _<_, _≤_}
+use native.Mathlib.Decide.{ℕ-discrete}
 use native.Mathlib.Omega.{arith}
-use borrow.Author.Tests.{lt-ltb, le-ltb}
+use borrow.Author.Tests.{lt-ltb, le-ltb, le-leb, ne-eqb}
 use mathlib.Core.Logic.{_⊎_, inl, inr}
+use lib.Dec.{leb, eqb}
 use lib.IntN.{ℤ, pos, negsuc, natAbs}
 use Rattle.laws.specs.Offset.{value}
 use Rattle.laws.proofs.Bools.{cond-true, cond-false}
@@ -75,13 +78,21 @@ unsigned-signed w h = go (side w 32768)
     go (inl l) = rw (signed-low w l)
     go (inr l) = rw (signed-high w l) (omega arith)
 
--- every word but 32768 has a size of at most 32767
-pub signed-size : (w : ℕ) → w < 65536 → (w ≡ 32768 → ⊥) → natAbs (signed w) ≤ 32767
-signed-size w h n = go (side w 32768)
+-- how the code tests a value by its word: 32768 alone stands for one outside −32767 to 32767, and 0 for 0
+pub size-test : (w : ℕ) → w < 65536 → leb (natAbs (signed w)) 32767 ≡ not (eqb w 32768)
+size-test w h = go (side w 32768) (ℕ-discrete w 32768)
   where
-    go : (w < 32768) ⊎ (32768 ≤ w) → natAbs (signed w) ≤ 32767
-    go (inl l) = rw (signed-low w l) (omega arith)
-    go (inr l) = rw (signed-high w l) (omega (arith, n))
+    go : (w < 32768) ⊎ (32768 ≤ w) → Dec (w ≡ 32768) → leb (natAbs (signed w)) 32767 ≡ not (eqb w 32768)
+    go (inl l) d = rw (signed-low w l, ne-eqb w 32768 (λ e. omega arith)) (le-leb w 32767 (omega arith))
+    go (inr l) (yes e) = rw e
+    go (inr l) (no n) = rw (signed-high w l, ne-eqb w 32768 n) (le-leb (suc (65535 - w)) 32767 (omega (arith, n)))
+
+pub zero-test : (w : ℕ) → w < 65536 → eqb (natAbs (signed w)) 0 ≡ eqb w 0
+zero-test w h = go (side w 32768)
+  where
+    go : (w < 32768) ⊎ (32768 ≤ w) → eqb (natAbs (signed w)) 0 ≡ eqb w 0
+    go (inl l) = rw (signed-low w l)
+    go (inr l) = rw (signed-high w l, ne-eqb w 0 (λ e. omega arith)) (ne-eqb (suc (65535 - w)) 0 (λ e. omega arith))
 
 -- ---- two's complement and offset binary: the same value, the top bit turned
 pub value-signed : (w : ℕ) → w < 65536 → value ((w + 32768) % 65536) ≡ signed w

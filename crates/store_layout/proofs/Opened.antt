@@ -5,20 +5,20 @@
 -- Assumes nothing.
 use mathlib.Core.Path.{_≡_, refl, _∙_}
 use mathlib.Core.Bool.{Bool, true, _&&_}
-use mathlib.Core.List.{List, [], _∷_}
+use mathlib.Core.List.{List}
 use Prim.Native.Nat.{ℕ, suc, _-_, _<_, _≤_}
 use native.Mathlib.Omega.{arith}
 use borrow.Author.Tests.{leb-true, ltb-true, eqb-true}
-use lib.Dec.{leb, ltb, eqb, lit≤}
+use lib.Dec.{leb, ltb, lit≤}
 use lib.ListN.{length, getD}
 use Rattle.laws.specs.All.{all}
+use Rattle.laws.proofs.Bools.{both}
 use Rattle.laws.proofs.Tables.{all-at, length-table, getD-table}
 use Rattle.calendar.specs.Dates.{isDate}
 use Rattle.store_layout.specs.Model.{emptyBlock, emptyStation, stationAt}
 use Rattle.store_layout.specs.Valid.{ValidStation, ValidStore}
 use Rattle.store_layout.specs.Layout.{storeLength}
 use Rattle.store_layout.specs.Opening.{openable, fresh}
-use Rattle.store_layout.proofs.Chains.{chain-at}
 use Rattle.store_layout.proofs.Validity.{valid-empty}
 
 module _ (year month day : ℕ) (numbers rows : List ℕ) where
@@ -37,38 +37,39 @@ module _ (year month day : ℕ) (numbers rows : List ℕ) where
   entryTest : ℕ → Bool
   entryTest i = leb 1 (getD numbers i 0) && leb (getD numbers i 0) 99999 && leb (getD rows i 0) 1
 
-  -- the k-th of the three tests of an entry
-  entry-test : all entryTest (length numbers) ≡ true → (i : ℕ) → i < length numbers → (k : ℕ)
-      → getD (leb 1 (getD numbers i 0) ∷ leb (getD numbers i 0) 99999 ∷ leb (getD rows i 0) 1 ∷ []) k true ≡ true
+  -- what the test of one entry asks
+  record Entry (i : ℕ) : Type 0 where
+    least : 1 ≤ getD numbers i 0
+    most : getD numbers i 0 ≤ 99999
+    row : getD rows i 0 ≤ 1
+
+  entry-parts : all entryTest (length numbers) ≡ true → (i : ℕ) → i < length numbers → Entry i
   unfolding entryTest
-  entry-test e i l =
-      chain-at (leb 1 (getD numbers i 0)) (leb (getD numbers i 0) 99999 ∷ leb (getD rows i 0) 1 ∷ []) (all-at entryTest (length numbers) e i l)
+  entry-parts e i l =
+      let q = both (all-at entryTest (length numbers) e i l) in
+      let p = both (q .0) in
+      record { least = leb-true _ _ (p .0); most = leb-true _ _ (p .1); row = leb-true _ _ (q .1) }
 
   pub openable-parts : (size : ℕ) → openable size year month day numbers rows ≡ true → Openable size
   unfolding openable entryTest
   openable-parts size e =
-      let p =
-      chain-at (leb 1 (length numbers))
-      (leb (length numbers) 32
-      ∷ eqb (length rows) (length numbers)
-      ∷ eqb size (storeLength (length numbers))
-      ∷ isDate year month day
-      ∷ all entryTest (length numbers)
-      ∷ all (λ i. ltb (getD numbers i 0) (getD numbers (suc i) 0)) (length numbers - 1)
-      ∷ [])
-      e
-      in
+      let g = both e in
+      let f = both (g .0) in
+      let d = both (f .0) in
+      let c = both (d .0) in
+      let b = both (c .0) in
+      let a = both (b .0) in
       record {
-        some = leb-true _ _ (p 0);
-        few = leb-true _ _ (p 1);
-        paired = eqb-true _ _ (p 2);
-        long = eqb-true _ _ (p 3);
-        date = p 4;
-        least = λ i l. leb-true _ _ (entry-test (p 5) i l 0);
-        most = λ i l. leb-true _ _ (entry-test (p 5) i l 1);
-        row = λ i l. leb-true _ _ (entry-test (p 5) i l 2);
+        some = leb-true _ _ (a .0);
+        few = leb-true _ _ (a .1);
+        paired = eqb-true _ _ (b .1);
+        long = eqb-true _ _ (c .1);
+        date = d .1;
+        least = λ i l. entry-parts (f .1) i l .least;
+        most = λ i l. entry-parts (f .1) i l .most;
+        row = λ i l. entry-parts (f .1) i l .row;
         ascending = λ i l.
-            ltb-true _ _ (all-at (λ j. ltb (getD numbers j 0) (getD numbers (suc j) 0)) (length numbers - 1) (p 6) i (omega arith));
+            ltb-true _ _ (all-at (λ j. ltb (getD numbers j 0) (getD numbers (suc j) 0)) (length numbers - 1) (g .1) i (omega arith));
       }
 
   -- ---- the stations of a fresh store
@@ -100,7 +101,7 @@ module _ (year month day : ℕ) (numbers rows : List ℕ) where
       each : Openable size → (i : ℕ) → i < length numbers → ValidStation (stationAt (fresh year month day numbers rows .stations) i)
       each o i l =
           rw (fresh-station i l)
-          (record { least = o .least i l; most = o .most i l; row = o .row i l; settled = lit≤ tt; block = valid-empty })
+          (record { least = o .least i l; most = o .most i l; row = o .row i l; settled = lit≤ tt; block = valid-empty 0 })
 
       ascending : Openable size → (i : ℕ) → suc i < length numbers
           → stationAt (fresh year month day numbers rows .stations) i .number < stationAt (fresh year month day numbers rows .stations) (suc i) .number

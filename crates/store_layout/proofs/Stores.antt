@@ -102,7 +102,7 @@ module _ (m : Store) where
 -- ---- what is read of a valid store's bytes is the store
 -- a station is read where its records lie
 pub station-in : (s : List ℕ) (n i : ℕ) (t : Station) → take entryLength (drop (entryAt i) s) ≡ encodeEntry t → blockBytes s n i ≡ encodeBlock (t .block)
-    → ValidBlock (t .block) → decodeStation s n i ≡ t
+    → ValidBlock (t .settled) (t .block) → decodeStation s n i ≡ t
 unfolding decodeStation encodeEntry
 station-in s n i t e b v =
     λ d.

@@ -16,6 +16,7 @@ use Rattle.calendar.proofs.Dates.{real}
 use Rattle.quality.specs.Cell.{Cell, slot}
 use Rattle.quality.specs.Elements.{column}
 use Rattle.quality.specs.Valid.{ValidCell, ValidSheet}
+use Rattle.quality.proofs.Validity.{cell-parts, raw-sheet-valid}
 use Rattle.store_layout.specs.Model.{Block, Station, Store, headOf, stationAt}
 use Rattle.quality.specs.declared.head.SlotHead.{SlotHead}
 use Rattle.store_layout.specs.Valid.{isDirection, ValidHead, ValidBlock, ValidStation, ValidStore}
@@ -25,6 +26,7 @@ use Rattle.store_layout.specs.Sound.{sound}
 use Rattle.store_layout.proofs.Numbers.{unsigned-below}
 use Rattle.store_layout.proofs.Bytes.{bytes-none, bytes-more, bytes-append, bytes-pieces, bytes-of-word, bytes-of-long}
 use Rattle.store_layout.proofs.Stores.{framed-encode, decode-encode}
+use Rattle.store_layout.proofs.Validity.{head-parts}
 use Rattle.store_layout.proofs.Soundness.{valid-sound}
 
 -- a direction is 100 at most
@@ -40,15 +42,17 @@ direction-most dd e = go (known (leb dd 36)) (known (eqb dd 99)) (known (eqb dd 
 pub bytes-of-head : (h : SlotHead) → ValidHead h → Bytes (encodeHead h)
 unfolding encodeHead
 bytes-of-head h v =
-    bytes-more (omega (arith, v .filed))
-    (bytes-more (omega (arith, v .ir))
-    (bytes-more (omega (arith, v .tr)) (bytes-more (omega (arith, direction-most (h .dd) (v .dd))) bytes-none)))
+    let p = head-parts h v in
+    bytes-more (omega (arith, p .filed))
+    (bytes-more (omega (arith, p .ir))
+    (bytes-more (omega (arith, p .tr)) (bytes-more (omega (arith, direction-most (h .dd) (p .dd))) bytes-none)))
 
-pub bytes-of-cell : (c : Cell) → ValidCell c → Bytes (encodeCell c)
+pub bytes-of-cell : {e : ℕ} (c : Cell) → ValidCell e c → Bytes (encodeCell c)
 unfolding encodeCell
 bytes-of-cell c v =
-    bytes-more (omega (arith, v .state))
-    (bytes-more (omega (arith, v .flag)) (bytes-of-word (unsigned (c .value)) (unsigned-below (c .value) (omega (arith, v .size)))))
+    let p = cell-parts v in
+    bytes-more (omega (arith, p .state))
+    (bytes-more (omega (arith, p .flag)) (bytes-of-word (unsigned (c .value)) (unsigned-below (c .value) (omega (arith, p .size)))))
 
 pub bytes-of-sheet : (s : List (List Cell)) → ValidSheet s → Bytes (encodeSheet s)
 unfolding encodeSheet
@@ -56,11 +60,11 @@ bytes-of-sheet s v =
     bytes-pieces 81 (λ j. encodeCell (slot (column s (cellElement j)) (cellSlot j)))
     (λ j l. bytes-of-cell _ (v .each (cellElement j) (omega arith) .each (cellSlot j) (omega arith)))
 
-pub bytes-of-block : (b : Block) → ValidBlock b → Bytes (encodeBlock b)
+pub bytes-of-block : {settled : ℕ} (b : Block) → ValidBlock settled b → Bytes (encodeBlock b)
 unfolding encodeBlock
 bytes-of-block b v =
     bytes-append (bytes-pieces 9 (λ k. encodeHead (headOf b k)) (λ k l. bytes-of-head _ (v .heads k l)))
-    (bytes-append (bytes-of-sheet (b .raw) (v .raw)) (bytes-of-sheet (b .checked) (v .checked)))
+    (bytes-append (bytes-of-sheet (b .raw) (raw-sheet-valid (b .raw) (v .raw))) (bytes-of-sheet (b .checked) (v .checked)))
 
 pub bytes-of-entry : (t : Station) → ValidStation t → Bytes (encodeEntry t)
 unfolding encodeEntry

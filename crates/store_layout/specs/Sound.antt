@@ -1,43 +1,50 @@
 -- Which buffers are sound: document 01's "The store" up to "A buffer that breaks any of this is unsound", and nothing more.
 -- Assumes nothing.
-use mathlib.Core.Bool.{Bool, not, _&&_, _||_}
+use mathlib.Core.Bool.{Bool, _&&_}
 use mathlib.Core.List.{List}
 use Prim.Native.Nat.{ℕ, suc, _+_, _-_}
 use lib.Dec.{leb, ltb, eqb}
 use lib.ListN.{length}
 use Rattle.laws.specs.All.{all}
 use Rattle.calendar.specs.Dates.{isDate}
-use Rattle.store_layout.specs.Layout.{byte, word, long, countAt, listOffsetAt, blockOffsetAt, blockLengthAt, yearAt, monthAt, dayAt, zeroAt, headerLength, blockLength, entryAt, rowIn, settledIn, blockAt, storeLength, headAt, cellElement, cellSlot, rawAt, checkedAt}
-use Rattle.store_layout.specs.Valid.{isDirection}
+use Rattle.quality.specs.Valid.{isCell}
+use Rattle.store_layout.specs.Layout.{word, long, countAt, listOffsetAt, blockOffsetAt, blockLengthAt, yearAt, monthAt, dayAt, zeroAt, headerLength, blockLength, entryAt, rowIn, settledIn, blockAt, storeLength, headAt, cellElement, cellSlot, rawAt, checkedAt, decodeHead, decodeCell}
+use Rattle.store_layout.specs.Valid.{isHead}
 
--- "nine slot heads of 4 bytes (filed 0 or 1; iR 0 to 4, else 5; tR 0 to 9; dd 0 to 36 or 99, else 100)"
-unfoldable pub soundHead : List ℕ → ℕ → Bool
-soundHead s at = leb (byte s at) 1 && leb (byte s (at + 1)) 5 && leb (byte s (at + 2)) 9 && isDirection (byte s (at + 3))
+-- the slot head at a position
+abbrev pub soundHead : List ℕ → ℕ → Bool
+soundHead s at = isHead (decodeHead s at)
 
--- "value (16 bits, signed, −32767 to 32767). States: 0 missing (value 0), .." with the largest state and flag that may stand there
-unfoldable pub soundCell : ℕ → ℕ → List ℕ → ℕ → Bool
-soundCell states flags s at =
-    leb (byte s at) states && leb (byte s (at + 1)) flags && not (eqb (word s (at + 2)) 32768)
-    && (ltb 0 (byte s at) || eqb (word s (at + 2)) 0)
+-- the cell of element e at a position, with the largest state and flag that may stand there
+abbrev pub soundCell : ℕ → ℕ → ℕ → List ℕ → ℕ → Bool
+soundCell states flags e s at = isCell states flags e (decodeCell s at)
 
 -- "Raw cells have state 0 or 1, flag 0."
-abbrev pub soundRaw : List ℕ → ℕ → Bool
+abbrev pub soundRaw : ℕ → List ℕ → ℕ → Bool
 soundRaw = soundCell 1 0
 
-abbrev pub soundChecked : List ℕ → ℕ → Bool
+-- "States: .. 3 filled. Flags: 0 none, .. 4 suspect."
+abbrev pub soundChecked : ℕ → List ℕ → ℕ → Bool
 soundChecked = soundCell 3 4
 
--- the block that begins at `at`
-unfoldable pub soundBlock : List ℕ → ℕ → Bool
-soundBlock s at =
+-- the block that begins at a position, of a station with that settled number, which changes nothing in it
+unfoldable pub soundBlock : ℕ → List ℕ → ℕ → Bool
+soundBlock settled s at =
     all (λ k. soundHead s (at + headAt k)) 9
-    && all (λ j. soundRaw s (at + rawAt (cellElement j) (cellSlot j))) 81
-    && all (λ j. soundChecked s (at + checkedAt (cellElement j) (cellSlot j))) 81
+    && all (λ j. soundRaw (cellElement j) s (at + rawAt (cellElement j) (cellSlot j))) 81
+    && all (λ j. soundChecked (cellElement j) s (at + checkedAt (cellElement j) (cellSlot j))) 81
 
 -- "number IIiii (32 bits, 1 to 99999), climate row (16 bits, 0 lowland, 1 hill), settled (16 bits, 0 or 1)"
-unfoldable pub soundEntry : List ℕ → ℕ → Bool
-soundEntry s i =
-    leb 1 (long s (entryAt i)) && leb (long s (entryAt i)) 99999 && leb (word s (entryAt i + rowIn)) 1 && leb (word s (entryAt i + settledIn)) 1
+unfoldable pub isEntry : ℕ → ℕ → ℕ → Bool
+isEntry number row settled = leb 1 number && leb number 99999 && leb row 1 && leb settled 1
+
+-- the entry of the station at index i
+abbrev pub soundEntry : List ℕ → ℕ → Bool
+soundEntry s i = isEntry (long s (entryAt i)) (word s (entryAt i + rowIn)) (word s (entryAt i + settledIn))
+
+-- the station at index i of n: its entry and its block
+unfoldable pub soundStation : List ℕ → ℕ → ℕ → Bool
+soundStation s n i = soundEntry s i && soundBlock (word s (entryAt i + settledIn)) s (blockAt n i)
 
 -- "ascending by station, each once": the station at index i is below the next
 unfoldable pub soundOrder : List ℕ → ℕ → Bool
@@ -53,8 +60,4 @@ soundHeader s =
     && eqb (word s zeroAt) 0
 
 unfoldable pub sound : List ℕ → Bool
-sound s =
-    soundHeader s
-    && all (soundEntry s) (word s countAt)
-    && all (soundOrder s) (word s countAt - 1)
-    && all (λ i. soundBlock s (blockAt (word s countAt) i)) (word s countAt)
+sound s = soundHeader s && all (soundStation s (word s countAt)) (word s countAt) && all (soundOrder s) (word s countAt - 1)

@@ -1,14 +1,12 @@
 -- Which models are stores: "A buffer that breaks any of this is unsound", said of the model.
 -- Assumes nothing.
 use mathlib.Core.Path.{_≡_}
-use mathlib.Core.Bool.{Bool, true, _||_}
+use mathlib.Core.Bool.{Bool, true, _&&_, _||_}
 use Prim.Native.Nat.{ℕ, suc, _≤_, _<_}
 use lib.Dec.{leb, eqb}
 use lib.ListN.{length}
 use Rattle.calendar.specs.Dates.{isDate}
-use Rattle.quality.specs.Cell.{Cell, slot}
-use Rattle.quality.specs.Elements.{column}
-use Rattle.quality.specs.Valid.{ValidSheet}
+use Rattle.quality.specs.Valid.{RawSheet, ValidSheet}
 use Rattle.store_layout.specs.Model.{Block, Station, Store, headOf, stationAt}
 use Rattle.quality.specs.declared.head.SlotHead.{SlotHead}
 
@@ -16,22 +14,18 @@ use Rattle.quality.specs.declared.head.SlotHead.{SlotHead}
 abbrev pub isDirection : ℕ → Bool
 isDirection dd = leb dd 36 || eqb dd 99 || eqb dd 100
 
-pub record ValidHead (h : SlotHead) : Type 0 where
-  pub filed : h .filed ≤ 1
-  pub ir : h .ir ≤ 5
-  pub tr : h .tr ≤ 9
-  pub dd : isDirection (h .dd) ≡ true
+-- "nine slot heads of 4 bytes (filed 0 or 1; iR 0 to 4, else 5; tR 0 to 9; dd 0 to 36 or 99, else 100)"
+unfoldable pub isHead : SlotHead → Bool
+isHead h = leb (h .filed) 1 && leb (h .ir) 5 && leb (h .tr) 9 && isDirection (h .dd)
 
--- "Raw cells have state 0 or 1, flag 0."
-pub record RawCell (c : Cell) : Type 0 where
-  pub state : c .state ≤ 1
-  pub flag : c .flag ≡ 0
+abbrev pub ValidHead : SlotHead → Type 0
+ValidHead h = isHead h ≡ true
 
-pub record ValidBlock (b : Block) : Type 0 where
+-- the block of a station with that settled number, which changes nothing in it
+pub record ValidBlock (settled : ℕ) (b : Block) : Type 0 where
   pub nine : length (b .heads) ≡ 9
   pub heads : (k : ℕ) → k < 9 → ValidHead (headOf b k)
-  pub raw : ValidSheet (b .raw)
-  pub unchecked : (e k : ℕ) → e < 9 → k < 9 → RawCell (slot (column (b .raw) e) k)
+  pub raw : RawSheet (b .raw)
   pub checked : ValidSheet (b .checked)
 
 pub record ValidStation (s : Station) : Type 0 where
@@ -39,7 +33,7 @@ pub record ValidStation (s : Station) : Type 0 where
   pub most : s .number ≤ 99999
   pub row : s .row ≤ 1
   pub settled : s .settled ≤ 1
-  pub block : ValidBlock (s .block)
+  pub block : ValidBlock (s .settled) (s .block)
 
 -- "One store covers one day and 1 to 32 land stations"; "ascending by station, each once"
 pub record ValidStore (m : Store) : Type 0 where

@@ -1,8 +1,7 @@
 // The test for an unsound store: document 01's "The store" up to "A buffer that breaks any of this is unsound".
 ghost use mathlib.Core.Path.{_≡_};
 ghost use Rattle.store_layout.specs.Sound.{sound};
-use crate::entries::are_entries;
-use store_blocks::are_blocks;
+use crate::stations::are_stations;
 use store_header::is_header;
 use store_numbers::at::COUNT_AT;
 use store_numbers::at::HEADER_LENGTH;
@@ -19,8 +18,5 @@ pub fn is_sound(store: &[u8]) -> bool
         return false;
     }
     let n = word_at(store, COUNT_AT) as usize;
-    if !are_entries(store, n) {
-        return false;
-    }
-    are_blocks(store, n)
+    are_stations(store, n)
 }

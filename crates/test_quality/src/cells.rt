@@ -1,4 +1,6 @@
-// Cells and columns of numbers, as reports leave them: a number is a value in offset binary, 0 stands for a missing one.
+// Cells and columns of numbers, as reports leave them: a number is a value in offset binary, 0 stands for a missing one. They are valid
+// for each element.
+ghost use Prim.Native.Nat.{ℕ};
 ghost use Rattle.quality.specs.Coded.{cell, cells};
 ghost use Rattle.quality.specs.Valid.{ValidCell, ValidColumn};
 use quality::column::Column;
@@ -12,7 +14,7 @@ pub const O: u16 = 32768;
 pub const M: u16 = 0;
 
 pub fn cell_of(v: u16) -> OffsetCell
-    ensures { λ r. ⌜ ValidCell (cell r) ⌝ }
+    ensures { λ r. ⌜ ((e : ℕ) → ValidCell e (cell r)) ⌝ }
 {
     if v == M {
         return OffsetCell {
@@ -30,7 +32,7 @@ pub fn cell_of(v: u16) -> OffsetCell
 
 // Nine missing cells.
 pub fn empty() -> Column
-    ensures { λ r. ⌜ ValidColumn (cells r) ⌝ }
+    ensures { λ r. ⌜ ((e : ℕ) → ValidColumn e (cells r)) ⌝ }
 {
     Column {
         values: [O; 9],
@@ -40,7 +42,7 @@ pub fn empty() -> Column
 }
 
 pub fn column_of(v: [u16; 9]) -> Column
-    ensures { λ r. ⌜ ValidColumn (cells r) ⌝ }
+    ensures { λ r. ⌜ ((e : ℕ) → ValidColumn e (cells r)) ⌝ }
 {
     let mut c = empty();
     for k in 0..9 {

@@ -2,6 +2,7 @@
 -- Assumes nothing.
 use Rattle.rules.specs.Step.{dateOf}
 use Rattle.quality.specs.Valid.{ValidSheet}
+use Rattle.quality.proofs.Validity.{raw-sheet-valid}
 use Rattle.store_layout.specs.Updates.{withStation}
 use Rattle.store_layout.specs.Layout.{decode, encode, countAt, word}
 use Rattle.store_layout.specs.Model.{Block, Station, stationAt}
@@ -62,7 +63,7 @@ settle-block-requires c κs =
     let row = c .before .before .before .row-of .ensures in (
       Stores.part-length s g i l a _ p refl,
       omega (arith, v .row),
-      subst (λ (x : Block). ValidSheet (x .raw)) (sym (Stores.part-block s g i l a _ p refl)) (v .block .raw),
+      subst (λ (x : Block). ValidSheet (x .raw)) (sym (Stores.part-block s g i l a _ p refl)) (raw-sheet-valid _ (v .block .raw)),
     )
 
 set-settled-requires : tie.Need-set-settled-requires

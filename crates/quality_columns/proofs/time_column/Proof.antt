@@ -1,9 +1,10 @@
 -- `quality_columns::time_column` meets its contract.
 -- Assumes nothing.
 use mathlib.Core.Path.{_∙_, sym, subst}
-use Prim.Native.Nat.{_-_}
+use Prim.Native.Nat.{_-_, _≤_}
+use lib.IntN.{natAbs}
 use borrow.Author.Needs.{needs}
-use Rattle.quality.specs.Valid.{ValidCell}
+use Rattle.quality.specs.Cell.{Cell}
 use Rattle.quality.specs.Steps.{timeCell}
 use Rattle.quality.specs.Coded.{cells}
 use Rattle.quality.proofs.Between.{Moved, ap₃}
@@ -22,7 +23,7 @@ loop-holds : tie.Need-loop-holds Inv-loop μ-loop
 loop-holds c = Between.start _ _ (length-cells _)
 
 time-cell-requires : tie.Need-time-cell-requires Inv-loop μ-loop
-time-cell-requires c κs = subst ValidCell (sym (c .before .at2 .ensures)) (c .before .before .before .before .before .pre .each (c .before .before .before .before .loop .k) (search needs))
+time-cell-requires c κs = subst (λ (x : Cell). natAbs (x .value) ≤ 32767) (sym (c .before .at2 .ensures)) (c .before .before .before .before .before .pre .each (c .before .before .before .before .loop .k) (search needs))
 
 loop-again : tie.Need-loop-again Inv-loop μ-loop
 loop-again c =

@@ -6,12 +6,13 @@ use Prim.Native.Nat.{_-_}
 use borrow.Author.Needs.{needs}
 use Rattle.laws.proofs.Fill.{Done}
 use Rattle.laws.proofs.Fill as Fill
-use Rattle.quality.specs.Valid.{ValidColumn}
+use Rattle.quality.specs.Valid.{Sized}
 use Rattle.quality.specs.Settled.{timeOf, time}
 use Rattle.quality.specs.Elements.{column}
 use Rattle.quality.specs.Coded.{sheet}
 use Rattle.quality.proofs.Sheets.{column-sheet, length-sheet}
 use Rattle.quality.proofs.Sheets as Sheets
+use Rattle.quality.proofs.Validity.{column-sized}
 use Rattle.quality_steps.proofs.time_all.Statement.{statement}
 use Rattle.quality_steps.proofs.time_all.Tie as tie
 
@@ -28,7 +29,7 @@ time-element-requires : tie.Need-time-element-requires Inv-loop μ-loop
 time-element-requires c κs =
     let s = c .before .before .before .args .t1 in
     let e = c .before .before .loop .e in
-    subst ValidColumn (column-sheet s e _ (search needs)) (c .before .before .before .pre .each e (search needs))
+    subst Sized (column-sheet s e _ (search needs)) (column-sized (column (sheet s) e) (c .before .before .before .pre .each e (search needs)))
 
 loop-again : tie.Need-loop-again Inv-loop μ-loop
 loop-again c =

@@ -12,7 +12,7 @@ use Rattle.store_blocks.proofs.are_cells.Statement.{statement}
 use Rattle.store_blocks.proofs.are_cells.Tie as tie
 
 abbrev Inv-loop : tie.InvT-loop
-Inv-loop store at states flags k₀ k = Passed (λ i. all (λ e. soundCell states flags store ((at + cellLength * 9 * i) + cellLength * e)) 9) 9 k
+Inv-loop store at states flags k₀ k = Passed (λ i. all (λ e. soundCell states flags e store ((at + cellLength * 9 * i) + cellLength * e)) 9) 9 k
 
 abbrev μ-loop : tie.MeasureT-loop
 μ-loop store at states flags k₀ k = 9 - k
@@ -24,9 +24,10 @@ are-cells-spec =
     (λ c. none _ _)
     (λ c. search needs)
     (λ c. search needs)
+    (λ c. search needs)
     (λ c κs. search needs)
-    (λ c. stopped (c .before .before .before .loop .inv) (search needs) _ (c .before .are-nine .ensures) (c .if1 .taken) ∙ (let a = c .before .before .before .before .before .args in slot-by-slot (soundCell (a .states) (a .flags) (a .store .now)) (a .at)))
+    (λ c. stopped (c .before .before .before .loop .inv) (search needs) _ (c .before .are-nine .ensures) (c .if1 .taken) ∙ (let a = c .before .before .before .before .before .args in slot-by-slot (λ e. soundCell (a .states) (a .flags) e (a .store .now)) (a .at)))
     (λ c. search needs)
     (λ c. search needs)
     (λ c. more (c .before .before .before .loop .inv) (search needs) _ (c .before .are-nine .ensures) (c .if1 .left))
-    (λ c. whole (c .before .loop .inv) (search needs) ∙ (let a = c .before .before .before .args in slot-by-slot (soundCell (a .states) (a .flags) (a .store .now)) (a .at))))
+    (λ c. whole (c .before .loop .inv) (search needs) ∙ (let a = c .before .before .before .args in slot-by-slot (λ e. soundCell (a .states) (a .flags) e (a .store .now)) (a .at))))

@@ -9,7 +9,7 @@ use Rattle.store_blocks.proofs.are_nine.Statement.{statement}
 use Rattle.store_blocks.proofs.are_nine.Tie as tie
 
 abbrev Inv-loop : tie.InvT-loop
-Inv-loop store at states flags e₀ e = Passed (λ i. soundCell states flags store (at + cellLength * i)) 9 e
+Inv-loop store at states flags e₀ e = Passed (λ i. soundCell states flags i store (at + cellLength * i)) 9 e
 
 abbrev μ-loop : tie.MeasureT-loop
 μ-loop store at states flags e₀ e = 9 - e

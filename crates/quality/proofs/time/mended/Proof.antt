@@ -8,7 +8,7 @@ use Rattle.quality.proofs.time.mended.Statement.{statement}
 use Rattle.quality.proofs.time.mended.Tie as tie
 
 negative-requires : tie.Need-negative-requires
-negative-requires c κs = sized (c .args .x .value) (c .pre .size)
+negative-requires c κs = sized (c .args .x .value) (c .pre)
 
 returns : tie.Need-returns
 unfolding spikeCell
