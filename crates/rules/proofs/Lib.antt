@@ -1,5 +1,6 @@
 -- Demand 3 and the proof table, proved: what other stations' calls bring, and when, never shows in a station's records or answers.
 pub mod Compared
+pub mod Answers
 pub mod Kept
 pub mod Steps
 pub mod Holding

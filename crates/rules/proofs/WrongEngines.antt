@@ -21,7 +21,7 @@ use Rattle.store_layout.specs.Index.{indexIn}
 use Rattle.store_layout.specs.Valid.{ValidStore}
 use Rattle.store_layout.proofs.Opened.{fresh-count, valid-fresh}
 use Rattle.store_layout.proofs.Stores.{decode-encode}
-use Rattle.rules.specs.Calls.{Call, file, settle, cell, day, Answer, refused, accepted, aCell, aDay}
+use Rattle.rules.specs.Calls.{Call, file, settle, cell, day, Answer, refused, accepted, onRefused}
 use Rattle.rules.specs.Rules.{Date, settledStation, dayOf, rule}
 use Rattle.rules.specs.Step.{Outcome, dateOf, unchanged, step}
 use Rattle.rules.specs.Runs.{Engine, Logged, log, left, names, naming, namingLog, records}
@@ -175,10 +175,7 @@ spoilt : Store → Store
 spoilt m = withStation 0 (withBlock (stationAt (m .stations) 0 .block) 1 (stationAt (m .stations) 0)) m
 
 spoilAfter : Answer → Outcome → List ℕ → Outcome
-spoilAfter (refused n) o s = record { answer = refused n; store = encode (spoilt (decode s)) }
-spoilAfter accepted o s = o
-spoilAfter (aCell c) o s = o
-spoilAfter (aDay l) o s = o
+spoilAfter a o s = onRefused (λ n. record { answer = refused n; store = encode (spoilt (decode s)) }) o a
 
 spoiling : Engine
 spoiling c s = spoilAfter (step c s .answer) (step c s) s
