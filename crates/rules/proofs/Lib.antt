@@ -2,6 +2,7 @@
 pub mod Compared
 pub mod Answers
 pub mod Kept
+pub mod Settling
 pub mod Steps
 pub mod Holding
 pub mod Own

@@ -14,20 +14,18 @@ use Rattle.calendar.specs.Slots.{slotOf}
 use Rattle.calendar.specs.declared.Slot.{Slot}
 use Rattle.calendar.specs.declared.Slot.the-variants.{At, Nothing}
 use Rattle.synop_codes.specs.Value.{Value, missing, read, Within}
-use Rattle.store_layout.specs.Model.{Block, Station, headOf}
-use Rattle.store_layout.specs.Valid.{RawCell, ValidBlock, ValidStation, isDirection}
-use Rattle.store_layout.specs.Updates.{withBlock}
-use Rattle.store_layout.proofs.Validity.{valid-with-slot, valid-with-checked, valid-with-block}
+use Rattle.store_layout.specs.Model.{Station, headOf}
+use Rattle.store_layout.specs.Valid.{RawCell, ValidStation, isDirection}
+use Rattle.store_layout.proofs.Validity.{valid-with-slot}
 use Rattle.quality.specs.Cell.{none}
-use Rattle.quality.specs.Limits.{warm}
 use Rattle.quality.specs.Valid.{ValidCell}
-use Rattle.quality.proofs.Validity.{settled-keeps}
 use Rattle.synop.specs.Report.{Report, report}
 use Rattle.synop_contents.specs.declared.Indicators.{Indicators}
 use Rattle.synop_contents.specs.declared.Identification.{Identification}
 use Rattle.rules.specs.Calls.{Call, file, settle, cell, day, Answer, refused, Request, takeNil, take, settling, giveCell, giveDay, Ask, unnamed, named, ask, askFile}
-use Rattle.rules.specs.Rules.{Date, keeps, makes, rawCell, filedHead, filed, fileAt, nilIn, fileIn, directions, settledStation, rule}
-use Rattle.rules.proofs.Kept.{Kept, Lawful, AllLawful}
+use Rattle.rules.specs.Rules.{Date, keeps, makes, rawCell, filedHead, filedCells, filed, fileAt, nilIn, fileIn, settledStation, rule}
+use Rattle.rules.proofs.Kept.{Kept, kept-block, Lawful, AllLawful}
+use Rattle.rules.proofs.Settling.{kept-settled}
 
 -- ---- requests that keep the station
 never : {a : Answer} {u : Station} → keeps a ≡ makes u → ⊥
@@ -49,19 +47,7 @@ pub lawful-day : Lawful giveDay
 unfolding rule
 lawful-day d t u v q = absurd (never q)
 
--- ---- requests that make a new block and mark
-pub kept-block : (b : Block) (mark : ℕ) (t : Station) → ValidStation t → ValidBlock b → mark ≤ 1 → Kept t (withBlock b mark t)
-unfolding withBlock
-kept-block b mark t v w l = record { number = refl; valid = valid-with-block b mark t v w l }
-
-pub kept-settled : (d : Date) (t : Station) → ValidStation t → Kept t (settledStation d t)
-unfolding settledStation
-kept-settled d t v =
-    kept-block _ 1 t v
-    (valid-with-checked _ (t .block) (v .block)
-    (settled-keeps (t .row) (warm (d .month)) (directions (t .block)) (t .block .raw) (v .block .raw)))
-    (lit≤ tt)
-
+-- ---- settling
 pub lawful-settling : Lawful settling
 unfolding rule
 lawful-settling d t u v q = let e : settledStation d t ≡ u = cc in subst (Kept t) e (kept-settled d t v)
@@ -95,7 +81,7 @@ module _ (head : Indicators) (values : List Value) (f : Fits head values) where
   unfolding filed
   kept-filed k t v =
       kept-block _ 0 t v
-      (valid-with-slot k (filedHead head) (map rawCell values) (t .block) (v .block)
+      (valid-with-slot k (filedHead k head) (filedCells k head values) (t .block) (v .block)
       (record { filed = lit≤ tt; ir = f .indicator; tr = f .duration; dd = f .direction })
       (λ e l. subst ValidCell (sym (raw-at values e)) (valid-raw (getD values e missing) (f .value e l)))
       (λ e l. subst RawCell (sym (raw-at values e)) (raw-raw (getD values e missing))))

@@ -22,14 +22,14 @@ use Rattle.store_layout.specs.Valid.{ValidStore}
 use Rattle.store_layout.proofs.Opened.{fresh-count, valid-fresh}
 use Rattle.store_layout.proofs.Stores.{decode-encode}
 use Rattle.rules.specs.Calls.{Call, file, settle, cell, day, Answer, refused, accepted, onRefused}
-use Rattle.rules.specs.Rules.{Date, settledStation, dayOf, rule}
+use Rattle.rules.specs.Rules.{Date, copyStep, rangeStep, internalStep, timeStep, fillStep, settledStation, dayOf, rule}
 use Rattle.rules.specs.Step.{Outcome, dateOf, unchanged, step}
 use Rattle.rules.specs.Runs.{Engine, Logged, log, left, names, naming, namingLog, records}
 use Rattle.rules.specs.Isolation.{Opens, Has, opened, Alike, Isolated}
-use Rattle.rules.proofs.Kept.{valid-kept}
+use Rattle.rules.proofs.Kept.{kept-block, valid-kept}
 use Rattle.rules.proofs.Steps.{step-encoded}
 use Rattle.rules.proofs.Holding.{HoldsStation, answer-own, records-held}
-use Rattle.rules.proofs.Requests.{kept-block, kept-settled}
+use Rattle.rules.proofs.Settling.{kept-settled}
 use Rattle.rules.proofs.Isolation.{newStation, date, holds-opened}
 
 -- ---- a store of one station on 11 April 2024, and one of two
@@ -155,7 +155,7 @@ valid-settled : (i : ℕ) (d : Date) (m : Store) → ValidStore m → i < length
 valid-settled i d m v l = valid-kept i _ m v (kept-settled d (stationAt (m .stations) i) (v .each i l))
 
 settlingAll-marks : Marks settlingAll
-unfolding settlingAll upTo fresh table withStation settledStation withBlock
+unfolding settlingAll upTo fresh table withStation settledStation copyStep rangeStep internalStep timeStep fillStep withBlock
 settlingAll-marks =
     record {
       call = settle 50000;
