@@ -10,6 +10,7 @@ pub mod Isolation
 pub mod Requests
 pub mod Reports
 pub mod Demand3
+pub mod Refusals
 pub mod WrongEngines
 pub mod Examples
 pub mod ProofTable

@@ -1,4 +1,5 @@
--- What the statement of demand 3 rules out: engines like ours but for one fault, each refuted by it.
+-- What the statements on engines rule out: engines like ours but for one fault, each refuted by demand 3, and `spoiling` also by what is said
+-- of refusals.
 --     nosy          an answer looks at how many stations the store has
 --     settlingAll   a settle settles every station
 --     spoiling      a refused call has written a byte
@@ -25,6 +26,7 @@ use Rattle.rules.specs.Calls.{Call, file, settle, cell, day, Answer, ref
 use Rattle.rules.specs.Rules.{Date, copyStep, rangeStep, internalStep, timeStep, fillStep, settledStation, dayOf, rule}
 use Rattle.rules.specs.Step.{Outcome, dateOf, unchanged, step}
 use Rattle.rules.specs.Runs.{Engine, Logged, log, left, names, naming, namingLog, records}
+use Rattle.rules.specs.Refusals.{RefusalsKeep}
 use Rattle.rules.specs.Isolation.{Opens, Has, opened, Alike, Isolated}
 use Rattle.rules.proofs.Kept.{kept-block, valid-kept}
 use Rattle.rules.proofs.Steps.{step-encoded}
@@ -201,6 +203,15 @@ spoiling-marks =
 
 spoiling-refuted : Isolated spoiling → ⊥
 spoiling-refuted = marks-refuted spoiling spoiling-marks
+
+spoiling-writes : RefusalsKeep spoiling → ⊥
+unfolding spoiling spoilAfter spoiling-marks fresh table
+spoiling-writes k =
+    let m = spoiling-marks in
+    let r : spoiling (settle 60000) two .store ≡ two = k .bytes (settle 60000) two 6 (rw unknown) in
+    let e : m .leaves ≡ both = sym (decode-encode (m .leaves) (m .valid)) ∙ ap decode (sym (m .bytes) ∙ r) ∙ decode-two in
+    let z : _≡_ {A = ℕ} 1 0 = sym (m .mark) ∙ ap (λ (n : Store). stationAt (n .stations) 0 .settled) e in
+    omega arith
 
 -- ---- as ours, but it leaves no store
 wiping : Engine
