@@ -12,9 +12,7 @@ settled station s = step (settle station) s .store
 
 -- nothing where there is no day line
 abbrev pub lineOf : ℕ → Answer → List ℕ
-lineOf station a =
-    onDay
-    (λ d. stationText station (rainOf (d .rain)) (slotOf (d .warmest)) (slotOf (d .coldest)) (d .read) (d .corrected) (d .filled) (d .missing)) [] a
+lineOf station a = onDay (λ d. stationText station (rainOf (d .rain)) (slotOf (d .warmest)) (slotOf (d .coldest)) (d .read) (d .corrected) (d .filled) (d .missing)) [] a
 
 -- the store and the first n bytes of the buffer after the station's line was made
 pub record Printed (station : ℕ) (s t buf : List ℕ) (n : ℕ) : Type 0 where

@@ -36,7 +36,7 @@ abbrev pub rawCell : Value → Cell
 rawCell missing = none
 rawCell (read v) = record { state = 1; flag = 0; value = v }
 
--- what filing a report in slot k puts there: its head, and its nine raw cells
+-- what filing a report in slot k puts there, its head and its nine raw cells: the same in every slot
 abbrev pub filedHead : ℕ → Indicators → SlotHead
 filedHead k h = record { filed = 1; ir = h .«rain_indicator»; tr = h .«rain_duration»; dd = h .«wind_direction» }
 
@@ -71,24 +71,28 @@ durations b = map (λ (h : SlotHead). h .tr) (b .heads)
 abbrev pub withMark : ℕ → Station → Station
 withMark n t = withBlock (t .block) n t
 
--- ---- settling: "Raw cells are copied to the checked cells, then four steps. Each reads only what the step before left"
--- the station with its checked sheet changed so, its mark as it was
+-- ---- settling
+-- the station with its checked sheet changed by f, its mark as it was: "Each reads only what the step before left"
 abbrev pub withStep : (List (List Cell) → List (List Cell)) → Station → Station
 withStep f t = withBlock (withChecked (f (t .block .checked)) (t .block)) (t .settled) t
 
+-- "Raw cells are copied to the checked cells, then four steps."
 unfoldable pub copyStep : Station → Station
 copyStep t = withStep (λ s. t .block .raw) t
 
+-- "1. Range."
 unfoldable pub rangeStep : Date → Station → Station
 rangeStep d t = withStep (range (t .row) (warm (d .month))) t
 
--- dds: dd of each slot
+-- "2. Internal.": dds is dd of each slot
 unfoldable pub internalStep : List ℕ → Station → Station
 internalStep dds t = withStep (internal dds) t
 
+-- "3. Time"
 unfoldable pub timeStep : Station → Station
 timeStep t = withStep time t
 
+-- "4. Fill"
 unfoldable pub fillStep : Station → Station
 fillStep t = withStep fill t
 
