@@ -101,16 +101,16 @@ module _ (head : Indicators) (values : List Value) (f : Fits head values) where
 
 -- ---- all that a call can ask
 -- a report that a call asks to take fits
-abbrev DeedFits : Request → Type 0
-DeedFits (takeNil yy gg) = Unit {0}
-DeedFits (take yy gg head values) = Fits head values
-DeedFits settling = Unit {0}
-DeedFits (giveCell e k) = Unit {0}
-DeedFits giveDay = Unit {0}
+abbrev RequestFits : Request → Type 0
+RequestFits (takeNil yy gg) = Unit {0}
+RequestFits (take yy gg head values) = Fits head values
+RequestFits settling = Unit {0}
+RequestFits (giveCell e k) = Unit {0}
+RequestFits giveDay = Unit {0}
 
 abbrev AskFits : Ask → Type 0
 AskFits (unnamed n) = Unit {0}
-AskFits (named y request) = DeedFits request
+AskFits (named y request) = RequestFits request
 
 ask-fits : ReportBounds → (c : Call) → AskFits (ask c)
 ask-fits bounds (file text) = go (report text) refl
@@ -123,7 +123,7 @@ ask-fits bounds (settle s) = tt
 ask-fits bounds (cell s e k) = tt
 ask-fits bounds (day s) = tt
 
-lawful : (request : Request) → DeedFits request → Lawful request
+lawful : (request : Request) → RequestFits request → Lawful request
 lawful (takeNil yy gg) f = lawful-nil yy gg
 lawful (take yy gg head values) f = lawful-take head values f yy gg
 lawful settling f = lawful-settling
