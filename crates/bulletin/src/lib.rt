@@ -42,7 +42,7 @@ fn file_report(store: &mut [u8], a: u8, b: u8, c: u8, d: u8, e: u8, piece: &[u8]
     if 512 < m {
         return false;
     }
-    match engine::file_in(store, &buf[0..m]) {
+    match engine_filing::file_in(store, &buf[0..m]) {
         Reply::Accepted => true,
         Reply::Refused(_) => false,
     }

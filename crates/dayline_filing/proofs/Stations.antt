@@ -11,8 +11,9 @@ use Rattle.daily.specs.declared.DayLine.{DayLine}
 use Rattle.engine_answers.specs.Replies.{SaysDay}
 use Rattle.engine_answers.specs.declared.DayReply.{DayReply}
 use Rattle.engine_answers.specs.declared.DayReply.the-variants as ofDay
-use Rattle.rules.specs.Calls.{Answer, refused, accepted, aCell, aDay, day}
+use Rattle.rules.specs.Calls.{refused, aDay, day}
 use Rattle.rules.specs.Step.{step}
+use Rattle.rules.proofs.Answers.{is-refused, IsDay, is-day}
 use Rattle.dayline_print.specs.Printed.{stationText, dayText, Shows}
 use Rattle.dayline_filing.specs.Printed.{settled, lineOf}
 
@@ -26,19 +27,13 @@ module _ (station : ℕ) (s t : List ℕ) (e : t ≡ settled station s) (r : Day
 
   pub line-shown : (l : DayLine) → r ≡ ofDay.Line l → (buf : List ℕ) (n : ℕ) → Shows buf n (dayText station l)
       → Shows buf n (lineOf station (step (day station) (settled station s) .answer))
-  line-shown l q buf n w = go (step (day station) (settled station s) .answer) (subst (λ (x : DayReply). SaysDay x (step (day station) (settled station s) .answer)) q answer)
+  line-shown l q buf n w = rw (i .answer) (subst (Shows buf n) (said station l (i .line) (i .holds)) w)
     where
-      go : (a : Answer) → SaysDay (ofDay.Line l) a → Shows buf n (lineOf station a)
-      go (aDay d) h = subst (Shows buf n) (said station l d h) w
-      go (refused m) h = absurd h
-      go accepted h = absurd h
-      go (aCell c) h = absurd h
+      i : IsDay (Says l) (step (day station) (settled station s) .answer)
+      i = is-day (Says l) _ (subst (λ (x : DayReply). SaysDay x (step (day station) (settled station s) .answer)) q answer)
 
   pub line-none : (k : ℕ) → r ≡ ofDay.Refused k → (buf : List ℕ) → Shows buf 0 (lineOf station (step (day station) (settled station s) .answer))
-  line-none k q buf = go (step (day station) (settled station s) .answer) (subst (λ (x : DayReply). SaysDay x (step (day station) (settled station s) .answer)) q answer)
+  line-none k q buf = rw i (record { upto = omega arith; long = refl; same = refl })
     where
-      go : (a : Answer) → SaysDay (ofDay.Refused k) a → Shows buf 0 (lineOf station a)
-      go (refused m) h = record { upto = omega arith; long = refl; same = refl }
-      go (aDay d) h = absurd h
-      go accepted h = absurd h
-      go (aCell c) h = absurd h
+      i : step (day station) (settled station s) .answer ≡ refused k
+      i = is-refused k _ (subst (λ (x : DayReply). SaysDay x (step (day station) (settled station s) .answer)) q answer)

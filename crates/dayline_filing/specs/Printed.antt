@@ -4,7 +4,7 @@ use mathlib.Core.List.{List, []}
 use Prim.Native.Nat.{ℕ}
 use Rattle.daily.specs.Coded.{rainOf, slotOf}
 use Rattle.dayline_print.specs.Printed.{stationText, Shows}
-use Rattle.rules.specs.Calls.{Answer, refused, accepted, aCell, aDay, settle, day}
+use Rattle.rules.specs.Calls.{Answer, onDay, settle, day}
 use Rattle.rules.specs.Step.{step}
 
 abbrev pub settled : ℕ → List ℕ → List ℕ
@@ -12,10 +12,7 @@ settled station s = step (settle station) s .store
 
 -- nothing where there is no day line
 abbrev pub lineOf : ℕ → Answer → List ℕ
-lineOf station (aDay d) = stationText station (rainOf (d .rain)) (slotOf (d .warmest)) (slotOf (d .coldest)) (d .read) (d .corrected) (d .filled) (d .missing)
-lineOf station (refused n) = []
-lineOf station accepted = []
-lineOf station (aCell c) = []
+lineOf station a = onDay (λ d. stationText station (rainOf (d .rain)) (slotOf (d .warmest)) (slotOf (d .coldest)) (d .read) (d .corrected) (d .filled) (d .missing)) [] a
 
 -- the store and the first n bytes of the buffer after the station's line was made
 pub record Printed (station : ℕ) (s t buf : List ℕ) (n : ℕ) : Type 0 where

@@ -1,18 +1,14 @@
 // The calls on a store of one day: open, file, settle, cell, day. No call has a `requires`: each answers on every buffer and argument, and
 // its contract gives the whole answer and every byte of the store at exit.
 ghost use mathlib.Core.Path.{_≡_};
-ghost use Rattle.store_layout.specs.Layout.{decode};
 ghost use Rattle.rules.specs.Calls as Calls;
-ghost use Rattle.engine_answers.specs.Good.{Good};
 ghost use Rattle.engine_answers.specs.Replies.{reply, cellReply, SaysDay, Did, openOutcome};
-ghost use Rattle.rules.specs.Step.{asked, step};
+ghost use Rattle.rules.specs.Step.{step};
 use engine_answers::CellReply;
 use engine_answers::DayReply;
 use engine_answers::Reply;
 use store_soundness::find::Located;
-use store_soundness::find::find;
 use store_soundness::find::locate;
-use synop::Report;
 
 // A store opened for a date and stations, each with its climate row: refused 10.
 pub fn open(
@@ -31,18 +27,6 @@ pub fn open(
     Reply::Refused(10)
 }
 
-// A report filed in a store that is known to be sound, for whoever has tested it (a bulletin does so once).
-pub fn file_in(store: &mut [u8], text: &[u8]) -> Reply
-    requires { ⌜ Good (now store) ⌝ }
-    ensures { λ r. ⌜ Did (asked (Calls.ask (Calls.file (now (text .entry)))) (decode (now (store .entry))) (now (store .entry))) (reply r) (now (store .exit)) ⌝ }
-{
-    match synop::read(text) {
-        Report::Refused(n) => Reply::Refused(n as u32),
-        Report::Nil(h) => engine_filing::file_nil(store, h),
-        Report::Whole(h, head, values) => engine_filing::file_whole(store, h, head, values),
-    }
-}
-
 // A report filed: refused 9, then 1 to 8.
 pub fn file(store: &mut [u8], text: &[u8]) -> Reply
     ensures { λ r. ⌜ Did (step (Calls.file (now (text .entry))) (now (store .entry))) (reply r) (now (store .exit)) ⌝ }
@@ -50,7 +34,7 @@ pub fn file(store: &mut [u8], text: &[u8]) -> Reply
     if !store_soundness::sound::is_sound(store) {
         return Reply::Refused(9);
     }
-    file_in(store, text)
+    engine_filing::file_in(store, text)
 }
 
 // A station settled: refused 9, 6.

@@ -23,6 +23,7 @@ use Rattle.quality.specs.Limits.{warm}
 use Rattle.quality.specs.Settled.{settled}
 use Rattle.engine_answers.specs.Good.{Good}
 use Rattle.rules.specs.Rules.{Date, directions, settledStation}
+use Rattle.rules.proofs.Settling.{settled-at-once}
 
 module _ (s : List ℕ) (g : Good s) where
   pub framed : Framed s
@@ -91,6 +92,6 @@ module _ (s : List ℕ) (g : Good s) where
 -- ---- the station that settling makes, as the code makes it
 pub settled-as : (d : Date) (t : Station) (row : ℕ) (isWarm : Bool) (b x : Block) → row ≡ t .row → isWarm ≡ warm (d .month) → b ≡ t .block
     → x ≡ withChecked (settled row isWarm (directions b) (b .raw)) b → withBlock x 1 t ≡ settledStation d t
-unfolding settledStation
 settled-as d t row isWarm b x p q r e =
     ap (λ (y : Block). withBlock y 1 t) (e ∙ (λ i. withChecked (settled (p i) (q i) (directions (r i)) (r i .raw)) (r i)))
+    ∙ sym (settled-at-once d t)

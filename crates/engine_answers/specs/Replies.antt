@@ -15,7 +15,7 @@ use Rattle.engine_answers.specs.declared.CellReply.{CellReply}
 use Rattle.engine_answers.specs.declared.CellReply.the-variants as ofCell
 use Rattle.engine_answers.specs.declared.DayReply.{DayReply}
 use Rattle.engine_answers.specs.declared.DayReply.the-variants as ofDay
-use Rattle.rules.specs.Calls.{Answer, refused, accepted, aCell, aDay}
+use Rattle.rules.specs.Calls.{Answer, refused, accepted, aCell, onRefused, onDay}
 use Rattle.rules.specs.Step.{Outcome}
 
 -- of open, file and settle
@@ -30,14 +30,8 @@ cellReply (ofCell.Refused n) = refused n
 
 -- of day: the code's line has each mean as a float, the paper's the eightfold sum that it is an eighth of
 abbrev pub SaysDay : DayReply → Answer → Type 0
-SaysDay (ofDay.Line l) (aDay d) = Says l d
-SaysDay (ofDay.Line l) (refused n) = ⊥
-SaysDay (ofDay.Line l) accepted = ⊥
-SaysDay (ofDay.Line l) (aCell c) = ⊥
-SaysDay (ofDay.Refused n) (refused m) = n ≡ m
-SaysDay (ofDay.Refused n) accepted = ⊥
-SaysDay (ofDay.Refused n) (aCell c) = ⊥
-SaysDay (ofDay.Refused n) (aDay d) = ⊥
+SaysDay (ofDay.Line l) a = onDay (Says l) ⊥ a
+SaysDay (ofDay.Refused n) a = onRefused (λ m. n ≡ m) ⊥ a
 
 -- a call answered a and left the bytes t, as the outcome o says
 pub record Did (o : Outcome) (a : Answer) (t : List ℕ) : Type 0 where

@@ -2,7 +2,7 @@
 -- Assumes nothing.
 use mathlib.Core.Path.{_≡_, refl, sym, _∙_, ap}
 use mathlib.Core.Bool.{true, false}
-use mathlib.Core.List.{List, map}
+use mathlib.Core.List.{List}
 use Prim.Native.Nat.{ℕ}
 use lib.Dec.{eqb}
 use Rattle.laws.proofs.Bools.{cond-true, cond-false}
@@ -12,7 +12,7 @@ use Rattle.store_layout.specs.Layout.{encode}
 use Rattle.store_layout.specs.Updates.{withSlot, withBlock, withStation}
 use Rattle.synop_contents.specs.declared.Indicators.{Indicators}
 use Rattle.rules.specs.Calls.{Answer, refused, accepted}
-use Rattle.rules.specs.Rules.{Effect, rawCell, filedHead, filed, fileAt}
+use Rattle.rules.specs.Rules.{Effect, filedHead, filedCells, filed, fileAt}
 use Rattle.rules.specs.Step.{Outcome, after}
 use Rattle.engine_answers.specs.Replies.{Did}
 
@@ -30,6 +30,6 @@ module _ (k : ℕ) (head : Indicators) (values : List Value) (t : Station) (i : 
   fresh u e q = did-as (ap (λ (d : Effect). after d i m s) (cond-false _ _ _ e)) (record { answer = refl; left = q })
 
 pub filed-as : (k : ℕ) (head : Indicators) (values : List Value) (t : Station) (b x : Block) → b ≡ t .block
-    → x ≡ withSlot k (filedHead head) (map rawCell values) b → withBlock x 0 t ≡ filed k head values t
+    → x ≡ withSlot k (filedHead k head) (filedCells k head values) b → withBlock x 0 t ≡ filed k head values t
 unfolding filed
-filed-as k head values t b x r e = ap (λ (y : Block). withBlock y 0 t) (e ∙ ap (withSlot k (filedHead head) (map rawCell values)) r)
+filed-as k head values t b x r e = ap (λ (y : Block). withBlock y 0 t) (e ∙ ap (withSlot k (filedHead k head) (filedCells k head values)) r)

@@ -1,4 +1,4 @@
-// Filing a report in one station's slot.
+// Filing a report in a store that is known to be sound: in the slot of the station that it names.
 ghost use mathlib.Core.Path.{_≡_};
 ghost use mathlib.Core.List.{map};
 ghost use Prim.Native.Nat.{ℕ, _<_};
@@ -10,17 +10,19 @@ ghost use Rattle.store_layout.specs.Updates.{withSlot};
 ghost use Rattle.synop_codes.specs.Value as codes;
 ghost use Rattle.quality.specs.Coded.{cell};
 ghost use Rattle.synop_contents.specs.Contents.{listed};
-ghost use Rattle.rules.specs.Calls.{named, takeNil, take};
+ghost use Rattle.rules.specs.Calls.{named, takeNil, take, file, ask};
 ghost use Rattle.engine_answers.specs.Good.{Good};
 ghost use Rattle.engine_answers.specs.Replies.{reply, Did};
-ghost use Rattle.rules.specs.Rules.{keeps, rawCell, filedHead, fileAt, nilIn, fileIn};
+ghost use Rattle.rules.specs.Rules.{keeps, rawCell, filedHead, filedCells, fileAt, nilIn, fileIn};
 ghost use Rattle.rules.specs.Step.{after, asked};
 use calendar::Slot;
 use engine_answers::Reply;
 use quality::column::OffsetCell;
 use quality::head::SlotHead;
+use store_block::block::put_slot;
 use store_numbers::at::BLOCK_LENGTH;
 use store_soundness::find::Located;
+use synop::Report;
 use synop_codes::Value;
 use synop_contents::Identification;
 use synop_contents::Indicators;
@@ -44,9 +46,21 @@ fn raw_cell(v: Value) -> OffsetCell
     }
 }
 
-// The nine raw cells of a report, in the elements' order.
-fn raw_cells(v: Values) -> [OffsetCell; 9]
-    ensures { λ r. ⌜ map cell r ≡ map rawCell (listed v) ⌝ }
+// What filing a report in slot k puts there: the slot's head.
+fn slot_head(k: usize, indicators: Indicators) -> SlotHead
+    ensures { λ r. ⌜ r ≡ filedHead k indicators ⌝ }
+{
+    SlotHead {
+        filed: 1,
+        ir: indicators.rain_indicator,
+        tr: indicators.rain_duration,
+        dd: indicators.wind_direction,
+    }
+}
+
+// And its nine raw cells, in the elements' order.
+fn raw_cells(k: usize, indicators: Indicators, v: Values) -> [OffsetCell; 9]
+    ensures { λ r. ⌜ map cell r ≡ filedCells k indicators (listed v) ⌝ }
 {
     let temperature = v.temperature;
     let dew_point = v.dew_point;
@@ -73,15 +87,10 @@ fn raw_cells(v: Values) -> [OffsetCell; 9]
 // A slot's head and raw cells replaced.
 fn put_report(block: &mut [u8], k: usize, head: Indicators, values: Values)
     requires { ⌜ (length (now block) ≡ blockLength) × (k < 9) ⌝ }
-    ensures { λ _. ⌜ decodeBlock (now (block .exit)) ≡ withSlot k (filedHead head) (map rawCell (listed values)) (decodeBlock (now (block .entry))) ⌝ }
+    ensures { λ _. ⌜ decodeBlock (now (block .exit)) ≡ withSlot k (filedHead k head) (filedCells k head (listed values)) (decodeBlock (now (block .entry))) ⌝ }
 {
-    let h = SlotHead {
-        filed: 1,
-        ir: head.rain_indicator,
-        tr: head.rain_duration,
-        dd: head.wind_direction,
-    };
-    store_block::block::put_slot(block, k, h, raw_cells(values));
+    let h = slot_head(k, head);
+    put_slot(block, k, h, raw_cells(k, head, values));
 }
 
 // A report filed in slot k of the station at an index, unless the slot is filed already.
@@ -119,7 +128,7 @@ fn nil_in(slot: Slot) -> Reply
 }
 
 // A `NIL` of a station: it changes nothing.
-pub fn file_nil(store: &[u8], h: Identification) -> Reply
+fn file_nil(store: &[u8], h: Identification) -> Reply
     requires { ⌜ Good (now store) ⌝ }
     ensures { λ r. ⌜ Did (asked (named (h .station) (takeNil (h .day) (h .hour))) (decode (now (store .entry))) (now (store .entry))) (reply r) (now (store .entry)) ⌝ }
 {
@@ -143,7 +152,7 @@ fn file_there(store: &mut [u8], index: usize, slot: Slot, head: Indicators, valu
 }
 
 // A whole report.
-pub fn file_whole(store: &mut [u8], h: Identification, head: Indicators, values: Values) -> Reply
+fn file_whole(store: &mut [u8], h: Identification, head: Indicators, values: Values) -> Reply
     requires { ⌜ Good (now store) ⌝ }
     ensures { λ r. ⌜ Did (asked (named (h .station) (take (h .day) (h .hour) head (listed values))) (decode (now (store .entry))) (now (store .entry))) (reply r) (now (store .exit)) ⌝ }
 {
@@ -154,5 +163,17 @@ pub fn file_whole(store: &mut [u8], h: Identification, head: Indicators, values:
             let slot = slot_in(store, h);
             file_there(store, index, slot, head, values)
         }
+    }
+}
+
+// A report, whatever its text holds.
+pub fn file_in(store: &mut [u8], text: &[u8]) -> Reply
+    requires { ⌜ Good (now store) ⌝ }
+    ensures { λ r. ⌜ Did (asked (ask (file (now (text .entry)))) (decode (now (store .entry))) (now (store .entry))) (reply r) (now (store .exit)) ⌝ }
+{
+    match synop::read(text) {
+        Report::Refused(n) => Reply::Refused(n as u32),
+        Report::Nil(h) => file_nil(store, h),
+        Report::Whole(h, head, values) => file_whole(store, h, head, values),
     }
 }

@@ -9,17 +9,14 @@ use Rattle.store_layout.specs.Layout.{decode}
 use Rattle.store_layout.specs.Index.{Index, nowhere, index, indexIn, numbers}
 use Rattle.store_layout.specs.Sound.{sound}
 use Rattle.store_layout.specs.Model.{Station, stationAt}
-use Rattle.rules.specs.Calls.{Answer, refused, accepted, aCell, aDay, day, giveDay, ask}
+use Rattle.rules.specs.Calls.{Answer, refused, aDay, onDay, day, giveDay, ask}
 use Rattle.rules.specs.Rules.{rule, dayOf, durations}
 use Rattle.rules.specs.Step.{Outcome, step, at, asked, after, dateOf, unchanged}
 use Rattle.capi_arrays.specs.Arrays.{Small, lineOf}
 use Rattle.capi_arrays.proofs.Within.{line-small}
 
 abbrev pub Modest : Answer → Type 0
-Modest (aDay d) = Small (lineOf d)
-Modest (refused n) = Unit {0}
-Modest accepted = Unit {0}
-Modest (aCell c) = Unit {0}
+Modest a = onDay (λ d. Small (lineOf d)) (Unit {0}) a
 
 either : (b : Bool) (x y : Answer) → Modest x → Modest y → Modest (cond b x y)
 either true x y h k = h

@@ -3,7 +3,7 @@
 ghost use mathlib.Core.Path.{_≡_};
 ghost use mathlib.Core.List.{[], _∷_};
 ghost use lib.IntN.{pos};
-ghost use Rattle.esfenruk.specs.Arrays.{cellNumbers, dayFloats, dayNumbers};
+ghost use Rattle.esfenruk.specs.Arrays.{cellNumbers, DayReturned};
 ghost use Rattle.esfenruk.specs.Numbers.{number, Returned, Delivered};
 ghost use Rattle.bulletin.specs.Bulletin.{result};
 ghost use Rattle.engine_answers.specs.Replies.{reply, openOutcome};
@@ -91,7 +91,7 @@ pub extern "C" fn esfenruk_cell(
     }
 }
 
-// The day line of a station, into `means` and `numbers`: 0, or 9, 6, 11.
+// The day line of a station, into `means`, each exact, and `numbers`: 0, or 9, 6, 11.
 #[no_mangle]
 pub extern "C" fn esfenruk_day(
     store: &[u8],
@@ -99,9 +99,7 @@ pub extern "C" fn esfenruk_day(
     means: &mut [f64; 6],
     numbers: &mut [i32; 14],
 ) -> u32
-    ensures { λ r. ⌜ r ≡ number (step (Calls.day station) (now (store .entry)) .answer) ⌝ }
-    ensures { λ _. ⌜ now (means .exit) ≡ dayFloats (step (Calls.day station) (now (store .entry)) .answer) (now (means .entry)) ⌝ }
-    ensures { λ _. ⌜ now (numbers .exit) ≡ dayNumbers (step (Calls.day station) (now (store .entry)) .answer) (now (numbers .entry)) ⌝ }
+    ensures { λ r. ⌜ DayReturned (step (Calls.day station) (now (store .entry)) .answer) (now (means .entry)) (now (numbers .entry)) r (now (means .exit)) (now (numbers .exit)) ⌝ }
 {
     match engine::day(store, station) {
         DayReply::Refused(n) => n,

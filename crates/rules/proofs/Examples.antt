@@ -163,9 +163,9 @@ asked-own = rw (asks .0)
 
 replies-computed : repliesTo (date 2024 4 11) (newStation 40001 0) asked ≡ replies
 unfolding asked replies repliesTo table isDate daysIn nextDay slotOf withSlot withChecked withBlock
-    Rules.filed Rules.fileAt Rules.settledStation Rules.cellOf Rules.dayOf Rules.rule
+    Rules.filed Rules.fileAt Rules.copyStep Rules.rangeStep Rules.internalStep Rules.timeStep Rules.fillStep Rules.settledStation Rules.cellOf Rules.dayOf Rules.rule
     Steps.rangeCell Steps.dewCell Steps.windCell Steps.maximumBelowMinimum Steps.spikeCell Steps.timeCell Steps.fillCell Steps.between Steps.rangeColumn Steps.dewColumn Steps.windColumn Steps.suspectAt
-    Settled.range Settled.internal Settled.timeOf Settled.time Settled.fillOf Settled.fill Settled.settled
+    Settled.range Settled.internal Settled.timeOf Settled.time Settled.fillOf Settled.fill
     Vapour.term Vapour.sumTo Vapour.Z Vapour.entry Vapour.pressure
     Counts.inColumn Counts.inSheet Extremes.earliest Extremes.warmest Extremes.coldest Line.dayLine sum average vapourColumn Rain.half Rain.rainTotal
 replies-computed = refl

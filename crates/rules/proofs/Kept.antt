@@ -1,13 +1,13 @@
 -- What the proof of demand 3 asks of the rules: a station that a request makes has the same number and is valid again. Without it one
 -- station's call could make the store unsound, and every later answer would be 9.
 -- Assumes nothing.
-use mathlib.Core.Path.{_≡_, refl}
-use Prim.Native.Nat.{ℕ}
+use mathlib.Core.Path.{_≡_, refl, _∙_}
+use Prim.Native.Nat.{ℕ, _≤_}
 use native.Mathlib.Omega.{arith}
-use Rattle.store_layout.specs.Model.{Station, Store, stationAt}
-use Rattle.store_layout.specs.Valid.{ValidStation, ValidStore}
-use Rattle.store_layout.specs.Updates.{withStation}
-use Rattle.store_layout.proofs.Validity.{valid-with-station}
+use Rattle.store_layout.specs.Model.{Block, Station, Store, stationAt}
+use Rattle.store_layout.specs.Valid.{ValidBlock, ValidStation, ValidStore}
+use Rattle.store_layout.specs.Updates.{withBlock, withStation}
+use Rattle.store_layout.proofs.Validity.{valid-with-block, valid-with-station}
 use Rattle.rules.specs.Calls.{Call, refused, Request, Ask, unnamed, named, ask}
 use Rattle.rules.specs.Rules.{Date, Effect, keeps, makes, rule}
 
@@ -15,6 +15,14 @@ use Rattle.rules.specs.Rules.{Date, Effect, keeps, makes, rule}
 pub record Kept (t u : Station) : Type 0 where
   pub number : u .number ≡ t .number
   pub valid : ValidStation u
+
+-- so may one that stands in u's place
+pub kept-on : {t u w : Station} → Kept t u → (ValidStation u → Kept u w) → Kept t w
+kept-on k h = record { number = h (k .valid) .number ∙ k .number; valid = h (k .valid) .valid }
+
+pub kept-block : (b : Block) (mark : ℕ) (t : Station) → ValidStation t → ValidBlock mark b → mark ≤ 1 → Kept t (withBlock b mark t)
+unfolding withBlock
+kept-block b mark t v w l = record { number = refl; valid = valid-with-block b mark t v w l }
 
 pub valid-kept : (i : ℕ) (u : Station) (m : Store) → ValidStore m → Kept (stationAt (m .stations) i) u → ValidStore (withStation i u m)
 valid-kept i u m v k = valid-with-station i u m (k .number) v (k .valid)

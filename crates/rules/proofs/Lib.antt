@@ -1,6 +1,8 @@
 -- Demand 3 and the proof table, proved: what other stations' calls bring, and when, never shows in a station's records or answers.
 pub mod Compared
+pub mod Answers
 pub mod Kept
+pub mod Settling
 pub mod Steps
 pub mod Holding
 pub mod Own
@@ -8,6 +10,7 @@ pub mod Isolation
 pub mod Requests
 pub mod Reports
 pub mod Demand3
+pub mod Refusals
 pub mod WrongEngines
 pub mod Examples
 pub mod ProofTable

@@ -14,20 +14,19 @@ use Rattle.calendar.specs.Slots.{slotOf}
 use Rattle.calendar.specs.declared.Slot.{Slot}
 use Rattle.calendar.specs.declared.Slot.the-variants.{At, Nothing}
 use Rattle.synop_codes.specs.Value.{Value, missing, read, Within}
-use Rattle.store_layout.specs.Model.{Block, Station, headOf}
-use Rattle.store_layout.specs.Valid.{ValidBlock, ValidStation, isDirection}
-use Rattle.store_layout.specs.Updates.{withBlock}
-use Rattle.store_layout.proofs.Validity.{head-whole, valid-with-slot, valid-with-checked, valid-with-block}
+use Rattle.store_layout.specs.Model.{Station, headOf}
+use Rattle.store_layout.specs.Valid.{ValidStation, isDirection}
+use Rattle.store_layout.proofs.Validity.{head-whole, valid-with-slot}
 use Rattle.quality.specs.Cell.{none}
-use Rattle.quality.specs.Limits.{warm}
 use Rattle.quality.specs.Valid.{RawCell}
-use Rattle.quality.proofs.Validity.{cell-whole, none-valid, raw-sheet-valid, settled-keeps}
+use Rattle.quality.proofs.Validity.{cell-whole, none-valid}
 use Rattle.synop.specs.Report.{Report, report}
 use Rattle.synop_contents.specs.declared.Indicators.{Indicators}
 use Rattle.synop_contents.specs.declared.Identification.{Identification}
 use Rattle.rules.specs.Calls.{Call, file, settle, cell, day, Answer, refused, Request, takeNil, take, settling, giveCell, giveDay, Ask, unnamed, named, ask, askFile}
-use Rattle.rules.specs.Rules.{Date, keeps, makes, rawCell, filedHead, filed, fileAt, nilIn, fileIn, directions, settledStation, rule}
-use Rattle.rules.proofs.Kept.{Kept, Lawful, AllLawful}
+use Rattle.rules.specs.Rules.{Date, keeps, makes, rawCell, filedHead, filedCells, filed, fileAt, nilIn, fileIn, settledStation, rule}
+use Rattle.rules.proofs.Kept.{Kept, kept-block, Lawful, AllLawful}
+use Rattle.rules.proofs.Settling.{kept-settled}
 
 -- ---- requests that keep the station
 never : {a : Answer} {u : Station} → keeps a ≡ makes u → ⊥
@@ -49,19 +48,7 @@ pub lawful-day : Lawful giveDay
 unfolding rule
 lawful-day d t u v q = absurd (never q)
 
--- ---- requests that make a new block and mark
-pub kept-block : (b : Block) (mark : ℕ) (t : Station) → ValidStation t → ValidBlock mark b → mark ≤ 1 → Kept t (withBlock b mark t)
-unfolding withBlock
-kept-block b mark t v w l = record { number = refl; valid = valid-with-block b mark t v w l }
-
-pub kept-settled : (d : Date) (t : Station) → ValidStation t → Kept t (settledStation d t)
-unfolding settledStation
-kept-settled d t v =
-    kept-block _ 1 t v
-    (valid-with-checked 1 _ (t .block) (v .block)
-    (settled-keeps (t .row) (warm (d .month)) (directions (t .block)) (t .block .raw) (raw-sheet-valid (t .block .raw) (v .block .raw))))
-    (lit≤ tt)
-
+-- ---- settling
 pub lawful-settling : Lawful settling
 unfolding rule
 lawful-settling d t u v q = let e : settledStation d t ≡ u = cc in subst (Kept t) e (kept-settled d t v)
@@ -91,8 +78,8 @@ module _ (head : Indicators) (values : List Value) (f : Fits head values) where
   unfolding filed
   kept-filed k t v =
       kept-block _ 0 t v
-      (valid-with-slot 0 k (filedHead head) (map rawCell values) (t .block) (v .block)
-      (head-whole (filedHead head) (record { filed = lit≤ tt; ir = f .indicator; tr = f .duration; dd = f .direction }))
+      (valid-with-slot 0 k (filedHead k head) (filedCells k head values) (t .block) (v .block)
+      (head-whole (filedHead k head) (record { filed = lit≤ tt; ir = f .indicator; tr = f .duration; dd = f .direction }))
       (λ e l. subst (RawCell e) (sym (raw-at values e)) (valid-raw e (getD values e missing) (f .value e l))))
       (lit≤ tt)
 
@@ -110,16 +97,16 @@ module _ (head : Indicators) (values : List Value) (f : Fits head values) where
 
 -- ---- all that a call can ask
 -- a report that a call asks to take fits
-abbrev DeedFits : Request → Type 0
-DeedFits (takeNil yy gg) = Unit {0}
-DeedFits (take yy gg head values) = Fits head values
-DeedFits settling = Unit {0}
-DeedFits (giveCell e k) = Unit {0}
-DeedFits giveDay = Unit {0}
+abbrev RequestFits : Request → Type 0
+RequestFits (takeNil yy gg) = Unit {0}
+RequestFits (take yy gg head values) = Fits head values
+RequestFits settling = Unit {0}
+RequestFits (giveCell e k) = Unit {0}
+RequestFits giveDay = Unit {0}
 
 abbrev AskFits : Ask → Type 0
 AskFits (unnamed n) = Unit {0}
-AskFits (named y request) = DeedFits request
+AskFits (named y request) = RequestFits request
 
 ask-fits : ReportBounds → (c : Call) → AskFits (ask c)
 ask-fits bounds (file text) = go (report text) refl
@@ -132,7 +119,7 @@ ask-fits bounds (settle s) = tt
 ask-fits bounds (cell s e k) = tt
 ask-fits bounds (day s) = tt
 
-lawful : (request : Request) → DeedFits request → Lawful request
+lawful : (request : Request) → RequestFits request → Lawful request
 lawful (takeNil yy gg) f = lawful-nil yy gg
 lawful (take yy gg head values) f = lawful-take head values f yy gg
 lawful settling f = lawful-settling

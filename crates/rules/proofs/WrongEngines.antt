@@ -1,4 +1,5 @@
--- What the statement of demand 3 rules out: engines like ours but for one fault, each refuted by it.
+-- What the statements on engines rule out: engines like ours but for one fault, each refuted by demand 3, and `spoiling` also by what is said
+-- of refusals.
 --     nosy          an answer looks at how many stations the store has
 --     settlingAll   a settle settles every station
 --     spoiling      a refused call has written a byte
@@ -21,15 +22,16 @@ use Rattle.store_layout.specs.Index.{indexIn}
 use Rattle.store_layout.specs.Valid.{ValidStore}
 use Rattle.store_layout.proofs.Opened.{fresh-count, valid-fresh}
 use Rattle.store_layout.proofs.Stores.{decode-encode}
-use Rattle.rules.specs.Calls.{Call, file, settle, cell, day, Answer, refused, accepted, aCell, aDay}
-use Rattle.rules.specs.Rules.{Date, settledStation, dayOf, rule}
+use Rattle.rules.specs.Calls.{Call, file, settle, cell, day, Answer, refused, accepted, onRefused}
+use Rattle.rules.specs.Rules.{Date, copyStep, rangeStep, internalStep, timeStep, fillStep, settledStation, dayOf, rule}
 use Rattle.rules.specs.Step.{Outcome, dateOf, unchanged, step}
 use Rattle.rules.specs.Runs.{Engine, Logged, log, left, names, naming, namingLog, records}
+use Rattle.rules.specs.Refusals.{RefusalsKeep}
 use Rattle.rules.specs.Isolation.{Opens, Has, opened, Alike, Isolated}
-use Rattle.rules.proofs.Kept.{valid-kept}
+use Rattle.rules.proofs.Kept.{kept-block, valid-kept}
 use Rattle.rules.proofs.Steps.{step-encoded}
 use Rattle.rules.proofs.Holding.{HoldsStation, answer-own, records-held}
-use Rattle.rules.proofs.Requests.{kept-block, kept-settled}
+use Rattle.rules.proofs.Settling.{kept-settled}
 use Rattle.rules.proofs.Isolation.{newStation, date, holds-opened}
 
 -- ---- a store of one station on 11 April 2024, and one of two
@@ -155,7 +157,7 @@ valid-settled : (i : ℕ) (d : Date) (m : Store) → ValidStore m → i < length
 valid-settled i d m v l = valid-kept i _ m v (kept-settled d (stationAt (m .stations) i) (v .each i l))
 
 settlingAll-marks : Marks settlingAll
-unfolding settlingAll upTo fresh table withStation settledStation withBlock
+unfolding settlingAll upTo fresh table withStation settledStation copyStep rangeStep internalStep timeStep fillStep withBlock
 settlingAll-marks =
     record {
       call = settle 50000;
@@ -175,10 +177,7 @@ spoilt : Store → Store
 spoilt m = withStation 0 (withBlock (stationAt (m .stations) 0 .block) 1 (stationAt (m .stations) 0)) m
 
 spoilAfter : Answer → Outcome → List ℕ → Outcome
-spoilAfter (refused n) o s = record { answer = refused n; store = encode (spoilt (decode s)) }
-spoilAfter accepted o s = o
-spoilAfter (aCell c) o s = o
-spoilAfter (aDay l) o s = o
+spoilAfter a o s = onRefused (λ n. record { answer = refused n; store = encode (spoilt (decode s)) }) o a
 
 spoiling : Engine
 spoiling c s = spoilAfter (step c s .answer) (step c s) s
@@ -204,6 +203,15 @@ spoiling-marks =
 
 spoiling-refuted : Isolated spoiling → ⊥
 spoiling-refuted = marks-refuted spoiling spoiling-marks
+
+spoiling-writes : RefusalsKeep spoiling → ⊥
+unfolding spoiling spoilAfter spoiling-marks fresh table
+spoiling-writes k =
+    let m = spoiling-marks in
+    let r : spoiling (settle 60000) two .store ≡ two = k .bytes (settle 60000) two 6 (rw unknown) in
+    let e : m .leaves ≡ both = sym (decode-encode (m .leaves) (m .valid)) ∙ ap decode (sym (m .bytes) ∙ r) ∙ decode-two in
+    let z : _≡_ {A = ℕ} 1 0 = sym (m .mark) ∙ ap (λ (n : Store). stationAt (n .stations) 0 .settled) e in
+    omega arith
 
 -- ---- as ours, but it leaves no store
 wiping : Engine

@@ -24,12 +24,35 @@ pub data Answer : Type 0 where
   aCell : Cell → Answer
   aDay : DayLine → Answer
 
+-- ---- by the kind of an answer: what is said of that kind, and what of all others. Whoever reads an answer does so through these, so that a
+-- new kind is added here alone
+abbrev pub onRefused {ℓ} : {A : Type ℓ} → (ℕ → A) → A → Answer → A
+onRefused f other (refused n) = f n
+onRefused f other accepted = other
+onRefused f other (aCell c) = other
+onRefused f other (aDay d) = other
+
+abbrev pub ifAccepted {ℓ} : {A : Type ℓ} → A → A → Answer → A
+ifAccepted this other (refused n) = other
+ifAccepted this other accepted = this
+ifAccepted this other (aCell c) = other
+ifAccepted this other (aDay d) = other
+
+abbrev pub onCell {ℓ} : {A : Type ℓ} → (Cell → A) → A → Answer → A
+onCell f other (refused n) = other
+onCell f other accepted = other
+onCell f other (aCell c) = f c
+onCell f other (aDay d) = other
+
+abbrev pub onDay {ℓ} : {A : Type ℓ} → (DayLine → A) → A → Answer → A
+onDay f other (refused n) = other
+onDay f other accepted = other
+onDay f other (aCell c) = other
+onDay f other (aDay d) = f d
+
 -- whether a report was accepted, by the answer to it
 abbrev pub isAccepted : Answer → Bool
-isAccepted (refused n) = false
-isAccepted accepted = true
-isAccepted (aCell c) = false
-isAccepted (aDay d) = false
+isAccepted a = ifAccepted true false a
 
 -- what is asked of a station: to take a NIL of that day and hour, to take a report with its head and nine values, to settle, to give the
 -- checked cell of an element and slot, to give its day line

@@ -4,5 +4,6 @@ pub mod Calls
 pub mod Rules
 pub mod Step
 pub mod Runs
+pub mod Refusals
 pub mod Isolation
 pub mod ProofTable

@@ -16,7 +16,7 @@ use Rattle.store_layout.specs.Updates.{withSlot, withChecked, withBlock}
 use Rattle.quality.specs.Cell.{Cell, none, slot}
 use Rattle.quality.specs.Elements.{column}
 use Rattle.quality.specs.Limits.{warm}
-use Rattle.quality.specs.Settled.{settled}
+use Rattle.quality.specs.Settled.{range, internal, time, fill}
 use Rattle.synop_contents.specs.declared.Indicators.{Indicators}
 use Rattle.rules.specs.Calls.{Answer, refused, accepted, aCell, aDay, Request, takeNil, take, settling, giveCell, giveDay}
 
@@ -36,13 +36,16 @@ abbrev pub rawCell : Value → Cell
 rawCell missing = none
 rawCell (read v) = record { state = 1; flag = 0; value = v }
 
--- the head of a filed slot
-abbrev pub filedHead : Indicators → SlotHead
-filedHead h = record { filed = 1; ir = h .«rain_indicator»; tr = h .«rain_duration»; dd = h .«wind_direction» }
+-- what filing a report in slot k puts there, its head and its nine raw cells: the same in every slot
+abbrev pub filedHead : ℕ → Indicators → SlotHead
+filedHead k h = record { filed = 1; ir = h .«rain_indicator»; tr = h .«rain_duration»; dd = h .«wind_direction» }
+
+abbrev pub filedCells : ℕ → Indicators → List Value → List Cell
+filedCells k h values = map rawCell values
 
 -- "Any other accepted report replaces the slot's head and raw cells and clears settled."
 unfoldable pub filed : ℕ → Indicators → List Value → Station → Station
-filed k head values t = withBlock (withSlot k (filedHead head) (map rawCell values) (t .block)) 0 t
+filed k head values t = withBlock (withSlot k (filedHead k head) (filedCells k head values) (t .block)) 0 t
 
 -- "slot filed already (not for NIL)" is 8
 unfoldable pub fileAt : ℕ → Indicators → List Value → Station → Effect
@@ -64,10 +67,38 @@ directions b = map (λ (h : SlotHead). h .dd) (b .heads)
 abbrev pub durations : Block → List ℕ
 durations b = map (λ (h : SlotHead). h .tr) (b .heads)
 
--- "Raw cells are copied to the checked cells, then four steps. .. Settled becomes 1."
+-- the station with another settled mark
+abbrev pub withMark : ℕ → Station → Station
+withMark n t = withBlock (t .block) n t
+
+-- ---- settling
+-- the station with its checked sheet changed by f, its mark as it was: "Each reads only what the step before left"
+abbrev pub withStep : (List (List Cell) → List (List Cell)) → Station → Station
+withStep f t = withBlock (withChecked (f (t .block .checked)) (t .block)) (t .settled) t
+
+-- "Raw cells are copied to the checked cells, then four steps."
+unfoldable pub copyStep : Station → Station
+copyStep t = withStep (λ s. t .block .raw) t
+
+-- "1. Range."
+unfoldable pub rangeStep : Date → Station → Station
+rangeStep d t = withStep (range (t .row) (warm (d .month))) t
+
+-- "2. Internal.": dds is dd of each slot
+unfoldable pub internalStep : List ℕ → Station → Station
+internalStep dds t = withStep (internal dds) t
+
+-- "3. Time"
+unfoldable pub timeStep : Station → Station
+timeStep t = withStep time t
+
+-- "4. Fill"
+unfoldable pub fillStep : Station → Station
+fillStep t = withStep fill t
+
+-- "Settled becomes 1."
 unfoldable pub settledStation : Date → Station → Station
-settledStation d t =
-    withBlock (withChecked (settled (t .row) (warm (d .month)) (directions (t .block)) (t .block .raw)) (t .block)) 1 t
+settledStation d t = withMark 1 (fillStep (timeStep (internalStep (directions (t .block)) (rangeStep d (copyStep t)))))
 
 -- "The cell call gives one checked cell by element (0 to 8) and slot"; "element or slot above 8" is 12, "not settled" is 11
 unfoldable pub cellOf : ℕ → ℕ → Station → Answer

@@ -19,7 +19,7 @@ use Rattle.bulletin.proofs.file_report.Lts as lts
 use Rattle.bulletin_text.proofs.begin.Reads as begin-reads
 use Rattle.bulletin_text.proofs.put.Reads as put-reads
 use Rattle.bulletin_text.proofs.squeeze.Reads as squeeze-reads
-use Rattle.engine.proofs.file_in.Reads as file-in-reads
+use Rattle.engine_filing.proofs.file_in.Reads as file-in-reads
 
 -- the buffer after the last byte was put
 holds : (c : tie.After-put)

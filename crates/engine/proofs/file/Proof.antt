@@ -11,7 +11,7 @@ use Rattle.engine.proofs.file.Statement.{statement}
 use Rattle.engine.proofs.file.Tie as tie
 use Rattle.engine.proofs.file.Reads as reads
 use Rattle.engine.proofs.file.Lts as lts
-use Rattle.engine.proofs.file_in.Reads as file-in-reads
+use Rattle.engine_filing.proofs.file_in.Reads as file-in-reads
 use Rattle.store_soundness.proofs.sound.is_sound.Reads as is-sound-reads
 
 is-sound-requires : tie.Need-is-sound-requires

@@ -1,18 +1,18 @@
--- `engine::file_in` meets its contract.
+-- `engine_filing::file_in` meets its contract.
 -- Assumes nothing.
 use Rattle.rules.specs.Step.{asked}
 use Rattle.rules.specs.Calls.{askFile}
 use Rattle.store_layout.specs.Layout.{decode}
 use Rattle.synop.specs.Report.{Report, meaning}
 use mathlib.Core.Path.{_≡_, refl, sym, _∙_, ap, ap₂, subst}
 use Rattle.engine_filing.proofs.Filed as Filed
 use borrow.Author.Needs.{needs}
-use Rattle.engine.proofs.file_in.Statement.{statement}
-use Rattle.engine.proofs.file_in.Tie as tie
-use Rattle.engine.proofs.file_in.Reads as reads
-use Rattle.engine.proofs.file_in.Lts as lts
+use Rattle.engine_filing.proofs.file_in.Statement.{statement}
+use Rattle.engine_filing.proofs.file_in.Tie as tie
+use Rattle.engine_filing.proofs.file_in.Reads as reads
+use Rattle.engine_filing.proofs.file_in.Lts as lts
 use Rattle.engine_filing.proofs.file_nil.Reads as file-nil-reads
 use Rattle.engine_filing.proofs.file_whole.Reads as file-whole-reads
 use Rattle.synop.proofs.read.Reads as read-reads
 
 read-requires : tie.Need-read-requires
