@@ -1,6 +1,8 @@
 -- Demand 3 and the proof table, proved: what other stations' calls bring, and when, never shows in a station's records or answers.
 pub mod Compared
 pub mod Kept
+pub mod Reactions
+pub mod Forms
 pub mod Steps
 pub mod Holding
 pub mod Own
@@ -10,4 +12,5 @@ pub mod Reports
 pub mod Demand3
 pub mod WrongEngines
 pub mod Examples
+pub mod FormExamples
 pub mod ProofTable

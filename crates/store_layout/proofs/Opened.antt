@@ -1,5 +1,6 @@
 -- An accepted open leaves a valid store.
 --     openable-parts      what it tells that a store may be opened
+--     can-open            and whatever the form and the length
 --     fresh-count, fresh-station      the stations of a fresh store
 --     valid-fresh         a fresh store is valid
 -- Assumes nothing.
@@ -8,16 +9,18 @@ use mathlib.Core.Bool.{Bool, true, _&&_}
 use mathlib.Core.List.{List, [], _∷_}
 use Prim.Native.Nat.{ℕ, suc, _-_, _<_, _≤_}
 use native.Mathlib.Omega.{arith}
-use borrow.Author.Tests.{leb-true, ltb-true, eqb-true}
+use borrow.Author.Tests.{leb-true, ltb-true, eqb-true, eq-eqb}
 use lib.Dec.{leb, ltb, eqb, lit≤}
 use lib.ListN.{length, getD}
 use Rattle.laws.specs.All.{all}
+use Rattle.laws.proofs.Bools.{and-true, and-left}
 use Rattle.laws.proofs.Tables.{all-at, length-table, getD-table}
 use Rattle.calendar.specs.Dates.{isDate}
 use Rattle.store_layout.specs.Model.{emptyBlock, emptyStation, stationAt}
 use Rattle.store_layout.specs.Valid.{ValidStation, ValidStore}
 use Rattle.store_layout.specs.Layout.{storeLength}
-use Rattle.store_layout.specs.Opening.{openable, fresh}
+use Rattle.store_layout.specs.Form.{Form}
+use Rattle.store_layout.specs.Opening.{canOpen, openableIn, openable, fresh}
 use Rattle.store_layout.proofs.Chains.{chain-at}
 use Rattle.store_layout.proofs.Validity.{valid-empty}
 
@@ -45,16 +48,16 @@ module _ (year month day : ℕ) (numbers rows : List ℕ) where
       chain-at (leb 1 (getD numbers i 0)) (leb (getD numbers i 0) 99999 ∷ leb (getD rows i 0) 1 ∷ []) (all-at entryTest (length numbers) e i l)
 
   pub openable-parts : (size : ℕ) → openable size year month day numbers rows ≡ true → Openable size
-  unfolding openable entryTest
+  unfolding openableIn canOpen entryTest
   openable-parts size e =
       let p =
       chain-at (leb 1 (length numbers))
       (leb (length numbers) 32
       ∷ eqb (length rows) (length numbers)
-      ∷ eqb size (storeLength (length numbers))
       ∷ isDate year month day
       ∷ all entryTest (length numbers)
       ∷ all (λ i. ltb (getD numbers i 0) (getD numbers (suc i) 0)) (length numbers - 1)
+      ∷ eqb size (storeLength (length numbers))
       ∷ [])
       e
       in
@@ -62,14 +65,22 @@ module _ (year month day : ℕ) (numbers rows : List ℕ) where
         some = leb-true _ _ (p 0);
         few = leb-true _ _ (p 1);
         paired = eqb-true _ _ (p 2);
-        long = eqb-true _ _ (p 3);
-        date = p 4;
-        least = λ i l. leb-true _ _ (entry-test (p 5) i l 0);
-        most = λ i l. leb-true _ _ (entry-test (p 5) i l 1);
-        row = λ i l. leb-true _ _ (entry-test (p 5) i l 2);
+        long = eqb-true _ _ (p 6);
+        date = p 3;
+        least = λ i l. leb-true _ _ (entry-test (p 4) i l 0);
+        most = λ i l. leb-true _ _ (entry-test (p 4) i l 1);
+        row = λ i l. leb-true _ _ (entry-test (p 4) i l 2);
         ascending = λ i l.
-            ltb-true _ _ (all-at (λ j. ltb (getD numbers j 0) (getD numbers (suc j) 0)) (length numbers - 1) (p 6) i (omega arith));
+            ltb-true _ _ (all-at (λ j. ltb (getD numbers j 0) (getD numbers (suc j) 0)) (length numbers - 1) (p 5) i (omega arith));
       }
+
+  pub can-open : (form : Form) (size : ℕ) → openableIn form size year month day numbers rows ≡ true → canOpen year month day numbers rows ≡ true
+  unfolding openableIn
+  can-open form size e = and-left _ _ e
+
+  as-long : canOpen year month day numbers rows ≡ true → openable (storeLength (length numbers)) year month day numbers rows ≡ true
+  unfolding openableIn
+  as-long e = and-true _ _ e (eq-eqb (storeLength (length numbers)) (storeLength (length numbers)) refl)
 
   -- ---- the stations of a fresh store
   pub fresh-count : length (fresh year month day numbers rows .stations) ≡ length numbers
@@ -86,9 +97,9 @@ module _ (year month day : ℕ) (numbers rows : List ℕ) where
   unfolding fresh
   fresh-date = refl
 
-  pub valid-fresh : (size : ℕ) → openable size year month day numbers rows ≡ true → ValidStore (fresh year month day numbers rows)
-  valid-fresh size e =
-      let o = openable-parts size e in
+  pub valid-fresh : canOpen year month day numbers rows ≡ true → ValidStore (fresh year month day numbers rows)
+  valid-fresh e =
+      let o = openable-parts (storeLength (length numbers)) (as-long e) in
       record {
         date = fresh-date ∙ o .date;
         some = rw fresh-count (o .some);
@@ -97,11 +108,11 @@ module _ (year month day : ℕ) (numbers rows : List ℕ) where
         ascending = λ i l. ascending o i (rw fresh-count at l);
       }
     where
-      each : Openable size → (i : ℕ) → i < length numbers → ValidStation (stationAt (fresh year month day numbers rows .stations) i)
+      each : Openable (storeLength (length numbers)) → (i : ℕ) → i < length numbers → ValidStation (stationAt (fresh year month day numbers rows .stations) i)
       each o i l =
           rw (fresh-station i l)
           (record { least = o .least i l; most = o .most i l; row = o .row i l; settled = lit≤ tt; block = valid-empty })
 
-      ascending : Openable size → (i : ℕ) → suc i < length numbers
+      ascending : Openable (storeLength (length numbers)) → (i : ℕ) → suc i < length numbers
           → stationAt (fresh year month day numbers rows .stations) i .number < stationAt (fresh year month day numbers rows .stations) (suc i) .number
       ascending o i l = rw (fresh-station i (omega arith), fresh-station (suc i) l) (o .ascending i l)

@@ -1,30 +1,29 @@
 -- `store_opening::open::is_openable` meets its contract. Each test that fails ends it; the last is the list's.
 -- Assumes nothing.
 use Rattle.laws.proofs.Rules.{tests}
-use Rattle.store_layout.specs.Opening.{openable}
+use Rattle.store_layout.specs.Opening.{canOpen, openableIn}
 use mathlib.Core.Path.{sym, _∙_}
 use borrow.Author.Tests.{not-true, not-false}
 use denote.Ref.{now}
-use Rattle.store_opening.proofs.Listed.{sized}
+use Rattle.store_opening.proofs.Listed.{sized, unsized}
 use borrow.Author.Needs.{needs}
 use Rattle.store_opening.proofs.open.is_openable.Statement.{statement}
 use Rattle.store_opening.proofs.open.is_openable.Tie as tie
 
 returns : tie.Need-returns
-unfolding openable
+unfolding openableIn canOpen
 returns c = search tests
 
 returns-2 : tie.Need-returns-2
-unfolding openable
+unfolding openableIn canOpen
 returns-2 c = search tests
 
 returns-3 : tie.Need-returns-3
-unfolding openable
+unfolding openableIn canOpen
 returns-3 c = search tests
 
 returns-4 : tie.Need-returns-4
-unfolding openable
-returns-4 c = search tests
+returns-4 c = unsized _ _ _ _ _ _ (c .if4 .taken)
 
 returns-5 : tie.Need-returns-5
 returns-5 c =
