@@ -9,6 +9,7 @@ use lib.Dec.{eqb}
 use lib.ListN.{length, drop}
 use Rattle.synop_text.specs.Groups.{groups}
 use Rattle.synop_text.specs.Walk.{part}
+use Rattle.store_layout.specs.Form.{ours}
 use Rattle.store_layout.specs.Sound.{sound}
 use Rattle.rules.specs.Calls.{file}
 use Rattle.rules.specs.Step.{step}
@@ -32,21 +33,21 @@ some-piece (b ∷ s) run = go (eqb b 61) (some-piece s (run ++ b ∷ []))
     go false h = h
 
 filings-more : (head : List ℕ) (gs : List (List ℕ)) (ps : List (List ℕ)) (t : Counts) → Some ps
-    → filings head (gs ∷ map (λ (p : List ℕ). groups p) ps) t ≡ filings head (map (λ (p : List ℕ). groups p) ps) (filing head gs t)
+    → filings ours head (gs ∷ map (λ (p : List ℕ). groups p) ps) t ≡ filings ours head (map (λ (p : List ℕ). groups p) ps) (filing ours head gs t)
 unfolding filings
 filings-more head gs _ t (some x xs) = refl
 
 abbrev pub all : List ℕ → List ℕ → ℕ → Counts → Counts
-all head s i t = filings head (parted (drop i s)) t
+all head s i t = filings ours head (parted (drop i s)) t
 
-all-more : (head s : List ℕ) (i e : ℕ) (t : Counts) → Reached s i e → e < length s → all head s i t ≡ all head s (e + 1) (filing head (groups (part s i e)) t)
+all-more : (head s : List ℕ) (i e : ℕ) (t : Counts) → Reached s i e → e < length s → all head s i t ≡ all head s (e + 1) (filing ours head (groups (part s i e)) t)
 all-more head s i e t v h =
-    ap (λ (ps : List (List ℕ)). filings head (map (λ (p : List ℕ). groups p) ps) t) (piece-here v h)
+    ap (λ (ps : List (List ℕ)). filings ours head (map (λ (p : List ℕ). groups p) ps) t) (piece-here v h)
     ∙ filings-more head (groups (part s i e)) (pieces [] (drop (e + 1) s)) t (some-piece (drop (e + 1) s) [])
 
 all-last : (head s : List ℕ) (i e : ℕ) (t : Counts) → Reached s i e → length s ≤ e → all head s i t ≡ tail (groups (part s i e)) t
 unfolding filings
-all-last head s i e t v h = ap (λ (ps : List (List ℕ)). filings head (map (λ (p : List ℕ). groups p) ps) t) (piece-last v h)
+all-last head s i e t v h = ap (λ (ps : List (List ℕ)). filings ours head (map (λ (p : List ℕ). groups p) ps) t) (piece-last v h)
 
 -- the loop: of the reports from `at` on those before i are filed, and the next ends at e
 pub record Filing (head s : List ℕ) (at : ℕ) (old : List ℕ) (i e a r : ℕ) (store : List ℕ) : Type 0 where
@@ -76,7 +77,7 @@ filing-more {head} {s} {at} {old} {i} {e} {a} {r} {store} b x y f new v h l d p 
       rest = ap (all head s (e + 1)) same ∙ sym (all-more head s i e (record { store = store; accepted = a; refused = r }) (v .next) h) ∙ v .rest;
     }
   where
-    same : record { store = new; accepted = a + x; refused = r + y } ≡ filing head (groups (part s i e)) (record { store = store; accepted = a; refused = r })
+    same : record { store = new; accepted = a + x; refused = r + y } ≡ filing ours head (groups (part s i e)) (record { store = store; accepted = a; refused = r })
     same = (λ j. record { store = d .left j; accepted = a + p j; refused = r + q j })
         ∙ ap (λ (c : Bool). counted c (step (file (rebuilt head (groups (part s i e)))) store .store) (record { store = store; accepted = a; refused = r })) (d .answer)
 

@@ -12,6 +12,7 @@ use borrow.Author.Tests.{leb-true}
 use Rattle.laws.proofs.Bools.{and-right}
 use lib.ListN.{length, take, drop}
 use lib.Seq.{length-take-le}
+use Rattle.store_layout.specs.Form.{ours}
 use Rattle.store_layout.specs.Sound.{sound}
 use Rattle.synop_text.specs.Groups.{groups}
 use Rattle.synop_text.specs.Walk.{part}
@@ -25,7 +26,7 @@ use Rattle.bulletin_text.proofs.Cuts.{piece-here, piece-last}
 use Rattle.bulletin.specs.declared.BulletinReply.{BulletinReply}
 use Rattle.bulletin.specs.declared.BulletinReply.the-variants as reply
 use Rattle.bulletin.specs.declared.Tally.{Tally}
-use Rattle.bulletin.specs.Bulletin.{Result, headed, under, result, Gave, Tallied, filings, atFirst, counts, unchanged}
+use Rattle.bulletin.specs.Bulletin.{Result, headed, under, resultIn, result, Gave, Tallied, filings, atFirst, counts, unchanged}
 
 pub begins-as : {p : List ℕ} {h k : Heading} {at : ℕ} → h ≡ k → Begins p h at → Begins p k at
 begins-as {p} {h} {k} {at} e b = subst (λ (x : Heading). Begins p x at) e b
@@ -59,20 +60,20 @@ module _ {s : List ℕ} {e at : ℕ} {h : Heading} (v : Reached s 0 e) (b : Begi
       let z : (e - 0) - at ≡ e - at = omega arith in
       drop-part at (e - 0) s (omega (arith, w)) ∙ ap (λ (k : ℕ). take k (drop at s)) z
 
-  begun : (more : List (List (List ℕ))) (t : List ℕ) → headed (groups (part s 0 e) ∷ more) t ≡ under h (groups (drop at (part s 0 e)) ∷ more) t
+  begun : (more : List (List (List ℕ))) (t : List ℕ) → headed ours (groups (part s 0 e) ∷ more) t ≡ under ours h (groups (drop at (part s 0 e)) ∷ more) t
   unfolding headed
   begun more t =
-      ap (λ (k : Heading). under k (drop 2 (groups (part s 0 e)) ∷ more) t) (sym (b .same))
-      ∙ ap (λ (gs : List (List ℕ)). under h (gs ∷ more) t) (sym (b .rest))
+      ap (λ (k : Heading). under ours k (drop 2 (groups (part s 0 e)) ∷ more) t) (sym (b .same))
+      ∙ ap (λ (gs : List (List ℕ)). under ours h (gs ∷ more) t) (sym (b .rest))
 
   alike : {ps : List (List ℕ)} → pieces [] s ≡ part s 0 e ∷ ps → pieces [] (drop at s) ≡ part s at e ∷ ps → (t : List ℕ)
-      → headed (parted s) t ≡ under h (parted (drop at s)) t
+      → headed ours (parted s) t ≡ under ours h (parted (drop at s)) t
   alike {ps} x y t =
-      ap (λ (qs : List (List ℕ)). headed (map (λ (p : List ℕ). groups p) qs) t) x ∙ begun (map (λ (p : List ℕ). groups p) ps) t
-      ∙ ap (λ (p : List ℕ). under h (groups p ∷ map (λ (q : List ℕ). groups q) ps) t) rest
-      ∙ sym (ap (λ (qs : List (List ℕ)). under h (map (λ (p : List ℕ). groups p) qs) t) y)
+      ap (λ (qs : List (List ℕ)). headed ours (map (λ (p : List ℕ). groups p) qs) t) x ∙ begun (map (λ (p : List ℕ). groups p) ps) t
+      ∙ ap (λ (p : List ℕ). under ours h (groups p ∷ map (λ (q : List ℕ). groups q) ps) t) rest
+      ∙ sym (ap (λ (qs : List (List ℕ)). under ours h (map (λ (p : List ℕ). groups p) qs) t) y)
 
-  pub headed-as : (t : List ℕ) → headed (parted s) t ≡ under h (parted (drop at s)) t
+  pub headed-as : (t : List ℕ) → headed ours (parted s) t ≡ under ours h (parted (drop at s)) t
   headed-as t =
       ⊎-elim (λ q. let l : length s ≤ e = omega (arith, q) in alike (piece-last v l) (piece-last later l) t)
       (λ l. alike (piece-here v l) (piece-here later l) t) (eq-or-lt-of-le (v .upto))
@@ -83,23 +84,23 @@ module _ {s : List ℕ} {e at : ℕ} {h : Heading} (v : Reached s 0 e) (b : Begi
 -- ---- the call
 module _ (s t : List ℕ) where
   pub gave-unsound : sound s ≡ false → Gave (result s t) (reply.Refused 9) s
-  unfolding result
+  unfolding resultIn
   gave-unsound e = rw e (record { answer = refl; left = refl })
 
   pub gave-long : sound s ≡ true → (leb 1 (length t) && leb (length t) 16384) ≡ false → Gave (result s t) (reply.Refused 1) s
-  unfolding result
+  unfolding resultIn
   gave-long e f = rw (e, f) (record { answer = refl; left = refl })
 
-  gave : {r : Result} → sound s ≡ true → (leb 1 (length t) && leb (length t) 16384) ≡ true → headed (parted t) s ≡ r → {a : BulletinReply} {u : List ℕ} → Gave r a u
+  gave : {r : Result} → sound s ≡ true → (leb 1 (length t) && leb (length t) 16384) ≡ true → headed ours (parted t) s ≡ r → {a : BulletinReply} {u : List ℕ} → Gave r a u
       → Gave (result s t) a u
-  unfolding result
+  unfolding resultIn
   gave e f h g = rw (e, f, h) g
 
-  pub gave-faulty : sound s ≡ true → (leb 1 (length t) && leb (length t) 16384) ≡ true → (n : ℕ) → headed (parted t) s ≡ unchanged n s
+  pub gave-faulty : sound s ≡ true → (leb 1 (length t) && leb (length t) 16384) ≡ true → (n : ℕ) → headed ours (parted t) s ≡ unchanged n s
       → Gave (result s t) (reply.Refused n) s
   gave-faulty e f n h = gave e f h (record { answer = refl; left = refl })
 
   pub gave-counts : sound s ≡ true → (leb 1 (length t) && leb (length t) 16384) ≡ true → (a b c d e : ℕ) (ps : List (List (List ℕ))) (x : Tally) (u : List ℕ)
-      → headed (parted t) s ≡ under (Timed a b c d e) ps s → Tallied (filings (heading a b c d e) ps (atFirst s)) (x .accepted) (x .refused) u
+      → headed ours (parted t) s ≡ under ours (Timed a b c d e) ps s → Tallied (filings ours (heading a b c d e) ps (atFirst s)) (x .accepted) (x .refused) u
       → Gave (result s t) (reply.Counted x) u
   gave-counts e f a b c d g ps x u h w = gave e f h (record { answer = λ i. counts (w .accepted i) (w .refused i); left = w .left })

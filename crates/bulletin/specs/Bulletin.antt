@@ -6,9 +6,10 @@ use mathlib.Core.List.{List, [], _∷_}
 use Prim.Native.Nat.{ℕ, _+_, _≤_}
 use lib.Dec.{leb}
 use lib.ListN.{length, drop}
+use Rattle.store_layout.specs.Form.{Form, ours}
 use Rattle.store_layout.specs.Sound.{sound}
 use Rattle.rules.specs.Calls.{isAccepted, file}
-use Rattle.rules.specs.Step.{Outcome, step}
+use Rattle.rules.specs.Step.{Outcome, stepIn, step}
 use Rattle.bulletin_text.specs.Pieces.{parted, none}
 use Rattle.bulletin_text.specs.Heading.{headingIn}
 use Rattle.bulletin_text.specs.Rebuilt.{heading, rebuilt}
@@ -27,21 +28,9 @@ pub record Counts : Type 0 where
 abbrev pub counted : Bool → List ℕ → Counts → Counts
 counted b s t = record { store = s; accepted = t .accepted + cond b 1 0; refused = t .refused + cond b 0 1 }
 
--- a report filed with the heading, and counted
-unfoldable pub filing : List ℕ → List (List ℕ) → Counts → Counts
-filing head gs t =
-    let o = step (file (rebuilt head gs)) (t .store) in
-    counted (isAccepted (o .answer)) (o .store) t
-
 -- "A tail without `=` is one report refused 1, unless it is blank."
 abbrev pub tail : List (List ℕ) → Counts → Counts
 tail gs t = cond (none gs) t (counted false (t .store) t)
-
--- the reports in order, and last the tail
-unfoldable pub filings : List ℕ → List (List (List ℕ)) → Counts → Counts
-filings head [] t = t
-filings head (gs ∷ []) t = tail gs t
-filings head (gs ∷ hs ∷ more) t = filings head (hs ∷ more) (filing head gs t)
 
 -- the answer, and the bytes of the store at exit
 pub data Answered : Type 0 where
@@ -62,19 +51,36 @@ told t = record { answer = counts (t .accepted) (t .refused); store = t .store }
 abbrev pub atFirst : List ℕ → Counts
 atFirst s = record { store = s; accepted = 0; refused = 0 }
 
-abbrev pub under : Heading → List (List (List ℕ)) → List ℕ → Result
-under (Faulty n) ps s = unchanged n s
-under (Timed a b c d e) ps s = told (filings (heading a b c d e) ps (atFirst s))
+module _ (form : Form) where
+  -- a report filed with the heading, and counted
+  unfoldable pub filing : List ℕ → List (List ℕ) → Counts → Counts
+  filing head gs t =
+      let o = stepIn form (file (rebuilt head gs)) (t .store) in
+      counted (isAccepted (o .answer)) (o .store) t
 
--- the heading is the first two groups of the first piece, and the reports stand behind it
-unfoldable pub headed : List (List (List ℕ)) → List ℕ → Result
-headed [] s = unchanged 3 s
-headed (gs ∷ more) s = under (headingIn gs) (drop 2 gs ∷ more) s
+  -- the reports in order, and last the tail
+  unfoldable pub filings : List ℕ → List (List (List ℕ)) → Counts → Counts
+  filings head [] t = t
+  filings head (gs ∷ []) t = tail gs t
+  filings head (gs ∷ hs ∷ more) t = filings head (hs ∷ more) (filing head gs t)
 
--- "At most 16384 bytes"; "Refused whole: 9, then 1 for length 0 or too long, 3 or 4 for the heading"
-unfoldable pub result : List ℕ → List ℕ → Result
-result s text =
-    cond (sound s) (cond (leb 1 (length text) && leb (length text) 16384) (headed (parted text) s) (unchanged 1 s)) (unchanged 9 s)
+  abbrev pub under : Heading → List (List (List ℕ)) → List ℕ → Result
+  under (Faulty n) ps s = unchanged n s
+  under (Timed a b c d e) ps s = told (filings (heading a b c d e) ps (atFirst s))
+
+  -- the heading is the first two groups of the first piece, and the reports stand behind it
+  unfoldable pub headed : List (List (List ℕ)) → List ℕ → Result
+  headed [] s = unchanged 3 s
+  headed (gs ∷ more) s = under (headingIn gs) (drop 2 gs ∷ more) s
+
+  -- "At most 16384 bytes"; "Refused whole: 9, then 1 for length 0 or too long, 3 or 4 for the heading"
+  unfoldable pub resultIn : List ℕ → List ℕ → Result
+  resultIn s text =
+      cond (form .sound s) (cond (leb 1 (length text) && leb (length text) 16384) (headed (parted text) s) (unchanged 1 s)) (unchanged 9 s)
+
+-- on our bytes
+abbrev pub result : List ℕ → List ℕ → Result
+result = resultIn ours
 
 -- what the code's answer says
 abbrev pub answered : BulletinReply → Answered

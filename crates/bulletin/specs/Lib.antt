@@ -1,2 +1,3 @@
--- Bulletins: what the whole answers and leaves.
+-- Bulletins: what the whole answers and leaves, in any byte form of a store.
 pub mod Bulletin
+pub mod Forms

@@ -4,9 +4,11 @@ ghost use mathlib.Core.Path.{_≡_};
 ghost use mathlib.Core.Bool.{true, cond};
 ghost use lib.ListN.{drop};
 ghost use Rattle.synop_text.specs.Groups.{groups};
+ghost use Rattle.store_layout.specs.Form.{ours, AnyTwoForms};
 ghost use Rattle.store_layout.specs.Sound.{sound};
 ghost use Rattle.bulletin_text.specs.Pieces.{parted};
 ghost use Rattle.bulletin_text.specs.Rebuilt.{heading};
+ghost use Rattle.bulletin.specs.Forms.{SameBulletins};
 ghost use Rattle.bulletin.specs.Bulletin.{Filed, filings, atFirst, Tallied, Ready, result, Gave};
 use bulletin_text::Heading;
 use bulletin_text::begin;
@@ -80,7 +82,7 @@ fn file_reports(
     e: u8,
 ) -> Tally
     requires { ⌜ Ready (now store) (now text) at ⌝ }
-    ensures { λ r. ⌜ Tallied (filings (heading a b c d e) (parted (drop at (now (text .entry)))) (atFirst (now (store .entry)))) (r .accepted) (r .refused) (now (store .exit)) ⌝ }
+    ensures { λ r. ⌜ Tallied (filings ours (heading a b c d e) (parted (drop at (now (text .entry)))) (atFirst (now (store .entry)))) (r .accepted) (r .refused) (now (store .exit)) ⌝ }
 {
     let mut i = at;
     let mut end = end_of(text, at);
@@ -121,3 +123,8 @@ pub fn bulletin(store: &mut [u8], text: &[u8]) -> BulletinReply
         }
     }
 }
+
+// In any two byte forms of a store a bulletin gives the same answer and leaves corresponding stores.
+pub fn same_bulletins()
+    ensures { λ _. ⌜ AnyTwoForms SameBulletins ⌝ }
+{}

@@ -16,7 +16,7 @@ use Rattle.store_layout.specs.Sound.{sound}
 use Rattle.synop.specs.Report.{Report}
 use Rattle.rules.specs.Calls.{Answer, refused, isAccepted, file, ask, askFile}
 use Rattle.rules.proofs.Reports.{long-report}
-use Rattle.rules.specs.Step.{Outcome, unchanged, asked, step}
+use Rattle.rules.specs.Step.{Outcome, unchanged, stepIn, asked, step}
 use Rattle.engine_answers.specs.Replies.{Did}
 use Rattle.dayline_text.specs.Cuts.{Kept, Adds, isBlank}
 use Rattle.dayline_filing.specs.declared.Progress.{Progress}
@@ -26,7 +26,7 @@ use Rattle.dayline_filing.proofs.Cutting.{reports-none, rest-none, repo
 
 -- ---- a report beyond 512 bytes is refused whatever it holds
 step-long : (s t u : List ℕ) → 512 < length t → 512 < length u → step (file t) s ≡ step (file u) s
-unfolding step
+unfolding stepIn
 step-long s t u h k =
     ap (λ (r : Report). cond (sound s) (asked (askFile r) (decode s) s) (unchanged (refused 9) s)) (long-report t h ∙ sym (long-report u k))
 

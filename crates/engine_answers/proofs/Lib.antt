@@ -1,3 +1,4 @@
--- Laws on a sound store and on what a call comes to.
+-- Laws on a sound store, on what a call comes to, and on open in two byte forms.
 pub mod Stores
 pub mod Outcomes
+pub mod Forms

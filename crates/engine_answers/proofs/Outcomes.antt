@@ -4,32 +4,37 @@ use mathlib.Core.Path.{_≡_, refl, _∙_, ap}
 use mathlib.Core.Bool.{true, false}
 use mathlib.Core.List.{List}
 use Prim.Native.Nat.{ℕ}
-use Rattle.laws.proofs.Bools.{cond-true, cond-false}
 use Rattle.store_layout.specs.Model.{Store, stationAt}
 use Rattle.store_layout.specs.Layout.{decode, encode}
+use Rattle.store_layout.specs.Form.{ours}
 use Rattle.store_layout.specs.Sound.{sound}
 use Rattle.store_layout.specs.Index.{Index, nowhere, index, indexIn, numbers}
 use Rattle.store_layout.specs.Updates.{withStation}
 use Rattle.store_soundness.proofs.Locations.{Searched}
 use Rattle.rules.specs.Calls.{Call, settle, cell, day, refused, accepted, Request, settling, giveCell, giveDay, Ask, named, ask}
 use Rattle.rules.specs.Rules.{rule, settledStation, cellOf, dayOf}
-use Rattle.rules.specs.Step.{dateOf, unchanged, after, at, asked, step}
+use Rattle.rules.specs.Reaction.{dateOf, placed, at}
+use Rattle.rules.specs.Step.{unchanged, outcomeIn, after, asked, step}
+use Rattle.rules.proofs.Forms as Forms
 
 -- ---- a step
 pub step-unsound : (c : Call) (s : List ℕ) → sound s ≡ false → step c s ≡ unchanged (refused 9) s
-unfolding step
-step-unsound c s h = cond-false _ _ _ h
+step-unsound = Forms.step-unsound ours
 
 pub step-sound : (c : Call) (s : List ℕ) → sound s ≡ true → step c s ≡ asked (ask c) (decode s) s
-unfolding step
-step-sound c s h = cond-true _ _ _ h
+step-sound = Forms.step-sound ours
 
-pub asked-none : (m : Store) (s : List ℕ) (x : ℕ) (d : Request) → indexIn (numbers m) x ≡ nowhere → asked (named x d) m s ≡ unchanged (refused 6) s
-asked-none m s x d h = ap (λ (p : Index). at p (λ i. after (rule (dateOf m) d (stationAt (m .stations) i)) i m s) s) h
+module _ (m : Store) (s : List ℕ) (x : ℕ) (d : Request) where
+  -- what is asked of the station x comes to, by its index
+  asked-in : (p : Index) → indexIn (numbers m) x ≡ p
+      → asked (named x d) m s ≡ outcomeIn ours (at p (λ i. placed (rule (dateOf m) d (stationAt (m .stations) i)) i m)) s
+  asked-in p h = ap (λ (p : Index). outcomeIn ours (at p (λ i. placed (rule (dateOf m) d (stationAt (m .stations) i)) i m)) s) h
 
-pub asked-at : (m : Store) (s : List ℕ) (x : ℕ) (d : Request) (i : ℕ) → indexIn (numbers m) x ≡ index i
-    → asked (named x d) m s ≡ after (rule (dateOf m) d (stationAt (m .stations) i)) i m s
-asked-at m s x d i h = ap (λ (p : Index). at p (λ i. after (rule (dateOf m) d (stationAt (m .stations) i)) i m s) s) h
+  pub asked-none : indexIn (numbers m) x ≡ nowhere → asked (named x d) m s ≡ unchanged (refused 6) s
+  asked-none = asked-in nowhere
+
+  pub asked-at : (i : ℕ) → indexIn (numbers m) x ≡ index i → asked (named x d) m s ≡ after (rule (dateOf m) d (stationAt (m .stations) i)) i m s
+  asked-at i = asked-in (index i)
 
 -- a call that names its station: not there
 pub step-none : (c : Call) (s : List ℕ) (x : ℕ) (d : Request) → ask c ≡ named x d → Searched s x nowhere → step c s ≡ unchanged (refused 6) s

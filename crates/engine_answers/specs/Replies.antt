@@ -7,8 +7,8 @@ use mathlib.Core.List.{List}
 use Prim.Native.Nat.{ℕ}
 use lib.ListN.{length}
 use Rattle.daily.specs.Coded.{Says}
-use Rattle.store_layout.specs.Layout.{encode}
-use Rattle.store_layout.specs.Opening.{openable, fresh}
+use Rattle.store_layout.specs.Form.{Form, ours}
+use Rattle.store_layout.specs.Opening.{openableIn, fresh}
 use Rattle.engine_answers.specs.declared.Reply.{Reply}
 use Rattle.engine_answers.specs.declared.Reply.the-variants as plain
 use Rattle.engine_answers.specs.declared.CellReply.{CellReply}
@@ -38,9 +38,12 @@ pub record Did (o : Outcome) (a : Answer) (t : List ℕ) : Type 0 where
   pub answer : a ≡ o .answer
   pub left : t ≡ o .store
 
--- an open: "Open tests only 10."
-unfoldable pub openOutcome : List ℕ → ℕ → ℕ → ℕ → List ℕ → List ℕ → Outcome
-openOutcome s year month day numbers rows =
-    cond (openable (length s) year month day numbers rows)
-    (record { answer = accepted; store = encode (fresh year month day numbers rows) })
+-- an open: "Open tests only 10." It meets any buffer
+unfoldable pub openIn : Form → List ℕ → ℕ → ℕ → ℕ → List ℕ → List ℕ → Outcome
+openIn form s year month day numbers rows =
+    cond (openableIn form (length s) year month day numbers rows)
+    (record { answer = accepted; store = form .encode (fresh year month day numbers rows) })
     (record { answer = refused 10; store = s })
+
+abbrev pub openOutcome : List ℕ → ℕ → ℕ → ℕ → List ℕ → List ℕ → Outcome
+openOutcome = openIn ours

@@ -1,4 +1,6 @@
 // What the calls answer: accepted or what was asked for, or refused with the paper's number.
+ghost use Rattle.store_layout.specs.Form.{AnyTwoForms};
+ghost use Rattle.engine_answers.specs.Forms.{SameOpens};
 use daily::DayLine;
 
 // Of open, file and settle.
@@ -25,3 +27,8 @@ pub enum DayReply {
     Line(DayLine),
     Refused(u32),
 }
+
+// In any two byte forms of a store an open gives the same answer and, accepted, leaves corresponding stores.
+pub fn same_opens()
+    ensures { λ _. ⌜ AnyTwoForms SameOpens ⌝ }
+{}

@@ -9,7 +9,7 @@ ghost use Rattle.quality.specs.Settled.{settled};
 ghost use Rattle.quality.specs.Valid.{ValidSheet};
 ghost use Rattle.engine_answers.specs.Good.{Good};
 ghost use Rattle.rules.specs.Rules.{directions, settledStation};
-ghost use Rattle.rules.specs.Step.{dateOf};
+ghost use Rattle.rules.specs.Reaction.{dateOf};
 use store_block::block::Area;
 use store_block::block::directions;
 use store_block::block::put_sheet;

@@ -7,11 +7,13 @@ use lib.Dec.{eqb}
 use Rattle.daily.specs.Line.{dayLine}
 use Rattle.store_layout.specs.Layout.{decode}
 use Rattle.store_layout.specs.Index.{Index, nowhere, index, indexIn, numbers}
+use Rattle.store_layout.specs.Form.{ours}
 use Rattle.store_layout.specs.Sound.{sound}
 use Rattle.store_layout.specs.Model.{Station, stationAt}
 use Rattle.rules.specs.Calls.{Answer, refused, aDay, onDay, day, giveDay, ask}
 use Rattle.rules.specs.Rules.{rule, dayOf, durations}
-use Rattle.rules.specs.Step.{Outcome, step, at, asked, after, dateOf, unchanged}
+use Rattle.rules.specs.Reaction.{stays, at}
+use Rattle.rules.specs.Step.{Outcome, outcomeIn, stepIn, step, asked, unchanged}
 use Rattle.capi_arrays.specs.Arrays.{Small, lineOf}
 use Rattle.capi_arrays.proofs.Within.{line-small}
 
@@ -33,14 +35,13 @@ modest-day t =
     let s = t .block .checked in
     either (eqb (t .settled) 1) (aDay (dayLine tRs s)) (refused 11) (line-small tRs s) (tt {0})
 
-modest-at : (p : Index) (f : ℕ → Outcome) (s : List ℕ) → ((i : ℕ) → Modest (f i .answer)) → Modest (at p f s .answer)
+modest-at : (p : Index) (f : ℕ → Answer) (s : List ℕ) → ((i : ℕ) → Modest (f i)) → Modest (outcomeIn ours (at p (λ i. stays (f i))) s .answer)
 modest-at nowhere f s h = tt
 modest-at (index i) f s h = h i
 
 pub modest-step : (x : ℕ) (s : List ℕ) → Modest (step (day x) s .answer)
-unfolding step rule
+unfolding stepIn rule
 modest-step x s =
     let m = decode s in
-    let f : ℕ → Outcome = λ i. after (rule (dateOf m) giveDay (stationAt (m .stations) i)) i m s in
     either-way (sound s) (asked (ask (day x)) m s) (unchanged (refused 9) s)
-    (modest-at (indexIn (numbers m) x) f s (λ i. modest-day (stationAt (m .stations) i))) (tt {0})
+    (modest-at (indexIn (numbers m) x) (λ i. dayOf (stationAt (m .stations) i)) s (λ i. modest-day (stationAt (m .stations) i))) (tt {0})

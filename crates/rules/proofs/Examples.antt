@@ -39,7 +39,7 @@ use Rattle.daily.specs.Line.{DayLine}
 use Rattle.daily.specs.Means.{absent, sum, average, vapourColumn}
 use Rattle.daily.specs.Rain
 use Rattle.store_layout.specs.Model.{Station}
-use Rattle.store_layout.specs.Opening.{openable}
+use Rattle.store_layout.specs.Opening.{canOpen, openableIn}
 use Rattle.store_layout.specs.Updates.{withSlot, withChecked, withBlock}
 use Rattle.rules.specs.Calls.{Call, file, settle, cell, day, Answer, refused, accepted, aCell, aDay, Ask, unnamed, named, takeNil, take, settling, giveCell, giveDay, ask}
 use Rattle.rules.specs.Rules
@@ -171,15 +171,15 @@ unfolding asked replies repliesTo table isDate daysIn nextDay slotOf withSlot wi
 replies-computed = refl
 
 -- ---- the two runs
-opens-A : Opens 2024 4 11 (30000 ∷ 40001 ∷ 50000 ∷ []) (1 ∷ 0 ∷ 1 ∷ [])
-unfolding openable isDate daysIn
+pub opens-A : Opens 2024 4 11 (30000 ∷ 40001 ∷ 50000 ∷ []) (1 ∷ 0 ∷ 1 ∷ [])
+unfolding openableIn canOpen isDate daysIn
 opens-A = record { accepted = refl }
 
 has-A : Has (30000 ∷ 40001 ∷ 50000 ∷ []) (1 ∷ 0 ∷ 1 ∷ []) 40001 0
 has-A = record { index = 1; inside = omega arith; number = refl; climate = refl }
 
 opens-B : Opens 2024 4 11 (40001 ∷ 99999 ∷ []) (0 ∷ 0 ∷ [])
-unfolding openable isDate daysIn
+unfolding openableIn canOpen isDate daysIn
 opens-B = record { accepted = refl }
 
 has-B : Has (40001 ∷ 99999 ∷ []) (0 ∷ 0 ∷ []) 40001 0

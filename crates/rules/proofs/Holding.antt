@@ -14,6 +14,7 @@ use lib.ListN.{length, take, drop, length-append}
 use Rattle.store_layout.specs.Model.{Station, Store, stationAt}
 use Rattle.store_layout.specs.Valid.{ValidStation, ValidStore}
 use Rattle.store_layout.specs.Layout.{encode, decode, encodeEntry, encodeBlock, entryAt, entryLength, blockAt, blockLength}
+use Rattle.store_layout.specs.Form.{ours}
 use Rattle.store_layout.specs.Index.{Index, index, indexIn, numbers}
 use Rattle.store_layout.specs.Updates.{withStation}
 use Rattle.store_layout.proofs.Stores.{decode-encode, entry-in, block-in, length-entry}
@@ -22,10 +23,12 @@ use Rattle.store_layout.proofs.Models.{with-count, with-same, with-other}
 use Rattle.store_layout.proofs.Indices.{finds}
 use Rattle.rules.specs.Calls.{Call, Answer, accepted, Ask, unnamed, named, ask}
 use Rattle.rules.specs.Rules.{Date, Effect, keeps, makes, rule}
-use Rattle.rules.specs.Step.{Outcome, dateOf, after, at, asked, step}
+use Rattle.rules.specs.Reaction.{Reaction, dateOf, placed, at}
+use Rattle.rules.specs.Step.{Outcome, outcomeIn, after, asked, step}
 use Rattle.rules.specs.Runs.{asks, names, recordsAt, records}
 use Rattle.rules.proofs.Kept.{Kept, valid-kept, AllLawful, doneBy, kept-by}
-use Rattle.rules.proofs.Steps.{step-encoded, Leaves, same, replaced, leaves}
+use Rattle.rules.proofs.Reactions.{Reacts, same, replaced, reacts}
+use Rattle.rules.proofs.Steps.{step-encoded}
 
 -- the station t, with the number x, stands in a valid store of the date d, and s are the bytes of that store
 pub record HoldsStation (d : Date) (x : ℕ) (t : Station) (s : List ℕ) : Type 0 where
@@ -89,7 +92,7 @@ module _ {d : Date} {x : ℕ} {t : Station} {s : List ℕ} (h : HoldsStation d x
       go : (q : Ask) → asks q x ≡ true → asked q (h .model) s ≡ after (doneBy d q t) (h .index) (h .model) s
       go (unnamed n) b = refl
       go (named y request) b =
-          ap (λ (p : Index). at p (λ i. after (rule (dateOf (h .model)) request (stationAt (h .model .stations) i)) i (h .model) s) s)
+          ap (λ (p : Index). outcomeIn ours (at p (λ i. placed (rule (dateOf (h .model)) request (stationAt (h .model .stations) i)) i (h .model))) s)
           (ap (indexIn (numbers (h .model))) (eqb-true y x b) ∙ index-held)
           ∙ ap₂ (λ (b : Date) (u : Station). after (rule b request u) (h .index) (h .model) s) (h .date) (h .station)
 
@@ -126,7 +129,8 @@ module _ {d : Date} {x : ℕ} {t : Station} {s : List ℕ} (h : HoldsStation d x
             put (h .index) u u (rw (h .station) k) (with-same (h .index) u (h .model) (h .inside)) (k .number ∙ h .named)
 
     pub holds-other : (c : Call) → names x c ≡ false → HoldsStation d x t (step c s .store)
-    holds-other c f = rw (h .bytes) (go (leaves lawful c (h .model) (h .valid)))
+    holds-other c f =
+        subst (λ (o : Outcome). HoldsStation d x t (o .store)) (sym (step-held c)) (go _ (reacts lawful c (h .model) (h .valid)))
       where
         own : names (stationAt (h .model .stations) (h .index) .number) c ≡ names x c
         own = ap (λ (y : ℕ). names y c) (ap (λ (u : Station). u .number) (h .station) ∙ h .named)
@@ -135,7 +139,6 @@ module _ {d : Date} {x : ℕ} {t : Station} {s : List ℕ} (h : HoldsStation d x
         apart j n i =
             false≢true (sym f ∙ sym own ∙ ap (λ (k : ℕ). names (stationAt (h .model .stations) k .number) c) i ∙ n)
 
-        go : Leaves c (h .model) (step c (encode (h .model)) .store) → HoldsStation d x t (step c (encode (h .model)) .store)
-        go (same e) = subst (HoldsStation d x t) (h .bytes ∙ sym e) h
-        go (replaced j u n k e) =
-            subst (HoldsStation d x t) (sym e) (put j u t k (with-other j u (h .model) (h .index) (apart j n) ∙ h .station) (h .named))
+        go : (r : Reaction) → Reacts c (h .model) r → HoldsStation d x t (outcomeIn ours r s .store)
+        go _ (same a) = h
+        go _ (replaced j u n k) = put j u t k (with-other j u (h .model) (h .index) (apart j n) ∙ h .station) (h .named)

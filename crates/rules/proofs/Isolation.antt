@@ -13,11 +13,13 @@ use lib.ListN.{length}
 use Rattle.calendar.specs.Dates.{isDate}
 use Rattle.store_layout.specs.Model.{Station, emptyBlock}
 use Rattle.store_layout.specs.Layout.{storeLength, encodeEntry, encodeBlock}
-use Rattle.store_layout.specs.Opening.{openable, fresh}
-use Rattle.store_layout.proofs.Opened.{openable-parts, fresh-count, fresh-station, valid-fresh}
+use Rattle.store_layout.specs.Form.{ours}
+use Rattle.store_layout.specs.Opening.{canOpen, openableIn, fresh}
+use Rattle.store_layout.proofs.Opened.{openable-parts, can-open, fresh-count, fresh-station, valid-fresh}
 use Rattle.rules.specs.Calls.{Call}
 use Rattle.rules.specs.Rules.{Date}
-use Rattle.rules.specs.Step.{dateOf, step}
+use Rattle.rules.specs.Reaction.{dateOf}
+use Rattle.rules.specs.Step.{step}
 use Rattle.rules.specs.Runs.{naming}
 use Rattle.rules.specs.Isolation.{Opens, Has, opened, Alike, Isolated}
 use Rattle.rules.proofs.Compared.{naming-naming}
@@ -43,7 +45,7 @@ module _ (year month day : ℕ) where
   holds-opened x row numbers rows o h =
       record {
         model = fresh year month day numbers rows;
-        valid = valid-fresh year month day numbers rows (storeLength (length numbers)) (o .accepted);
+        valid = valid-fresh year month day numbers rows (can-open year month day numbers rows ours _ (o .accepted));
         bytes = refl;
         date = date-fresh numbers rows;
         index = h .index;
@@ -53,7 +55,7 @@ module _ (year month day : ℕ) where
       }
 
   opens-one : (x row : ℕ) → isDate year month day ≡ true → 1 ≤ x → x ≤ 99999 → row ≤ 1 → Opens year month day (x ∷ []) (row ∷ [])
-  unfolding openable
+  unfolding openableIn canOpen
   opens-one x row e l u r = record { accepted = rw (e, le-leb 1 x l, le-leb x 99999 u, le-leb row 1 r) }
 
   pub alone : (x row : ℕ) (numbers rows : List ℕ) → Opens year month day numbers rows → Has numbers rows x row

@@ -3,6 +3,8 @@ pub mod Compared
 pub mod Answers
 pub mod Kept
 pub mod Settling
+pub mod Reactions
+pub mod Forms
 pub mod Steps
 pub mod Holding
 pub mod Own
@@ -13,4 +15,5 @@ pub mod Demand3
 pub mod Refusals
 pub mod WrongEngines
 pub mod Examples
+pub mod FormExamples
 pub mod ProofTable

@@ -16,15 +16,17 @@ use Rattle.laws.specs.Table.{table}
 use Rattle.calendar.specs.Dates.{isDate, daysIn}
 use Rattle.store_layout.specs.Model.{Store, stationAt}
 use Rattle.store_layout.specs.Layout.{encode, decode, encodeEntry, entryLength, blockLength, storeLength}
-use Rattle.store_layout.specs.Opening.{openable, fresh}
+use Rattle.store_layout.specs.Form.{ours}
+use Rattle.store_layout.specs.Opening.{canOpen, openableIn, fresh}
 use Rattle.store_layout.specs.Updates.{withBlock, withStation}
 use Rattle.store_layout.specs.Index.{indexIn}
 use Rattle.store_layout.specs.Valid.{ValidStore}
-use Rattle.store_layout.proofs.Opened.{fresh-count, valid-fresh}
+use Rattle.store_layout.proofs.Opened.{can-open, fresh-count, valid-fresh}
 use Rattle.store_layout.proofs.Stores.{decode-encode}
 use Rattle.rules.specs.Calls.{Call, file, settle, cell, day, Answer, refused, accepted, onRefused}
 use Rattle.rules.specs.Rules.{Date, copyStep, rangeStep, internalStep, timeStep, fillStep, settledStation, dayOf, rule}
-use Rattle.rules.specs.Step.{Outcome, dateOf, unchanged, step}
+use Rattle.rules.specs.Reaction.{dateOf}
+use Rattle.rules.specs.Step.{Outcome, unchanged, step}
 use Rattle.rules.specs.Runs.{Engine, Logged, log, left, names, naming, namingLog, records}
 use Rattle.rules.specs.Refusals.{RefusalsKeep}
 use Rattle.rules.specs.Isolation.{Opens, Has, opened, Alike, Isolated}
@@ -36,11 +38,11 @@ use Rattle.rules.proofs.Isolation.{newStation, date, holds-opened}
 
 -- ---- a store of one station on 11 April 2024, and one of two
 opens-one : Opens 2024 4 11 (40001 ∷ []) (0 ∷ [])
-unfolding openable isDate daysIn
+unfolding openableIn canOpen isDate daysIn
 opens-one = record { accepted = refl }
 
 opens-two : Opens 2024 4 11 (40001 ∷ 50000 ∷ []) (0 ∷ 1 ∷ [])
-unfolding openable isDate daysIn
+unfolding openableIn canOpen isDate daysIn
 opens-two = record { accepted = refl }
 
 has-one : Has (40001 ∷ []) (0 ∷ []) 40001 0
@@ -76,7 +78,7 @@ nosy c s = cond (eqb (length (decode s .stations)) 1) (step c s) (unchanged (ref
 count : (numbers rows : List ℕ) → Opens 2024 4 11 numbers rows → length (decode (opened 2024 4 11 numbers rows) .stations) ≡ length numbers
 count numbers rows o =
     ap (λ (m : Store). length (m .stations))
-    (decode-encode (fresh 2024 4 11 numbers rows) (valid-fresh 2024 4 11 numbers rows (storeLength (length numbers)) (o .accepted)))
+    (decode-encode (fresh 2024 4 11 numbers rows) (valid-fresh 2024 4 11 numbers rows (can-open 2024 4 11 numbers rows ours _ (o .accepted))))
     ∙ fresh-count 2024 4 11 numbers rows
 
 day-one : nosy (day 40001) one .answer ≡ refused 11
@@ -106,7 +108,7 @@ abbrev both : Store
 both = fresh 2024 4 11 (40001 ∷ 50000 ∷ []) (0 ∷ 1 ∷ [])
 
 valid-both : ValidStore both
-valid-both = valid-fresh 2024 4 11 (40001 ∷ 50000 ∷ []) (0 ∷ 1 ∷ []) (storeLength 2) (opens-two .accepted)
+valid-both = valid-fresh 2024 4 11 (40001 ∷ 50000 ∷ []) (0 ∷ 1 ∷ []) (can-open 2024 4 11 _ _ ours _ (opens-two .accepted))
 
 decode-two : decode two ≡ both
 decode-two = decode-encode both valid-both

@@ -1,9 +1,11 @@
--- The calls as rules: what a call asks of whom, what it does to that station, and what it does to the bytes of a store; runs of calls,
--- and the isolation of stations (document 01, "Who names a station", "Numbers at the gate").
+-- The calls as rules: what a call asks of whom, what it does to that station, to the store, and to its bytes, whatever their form; runs
+-- of calls, and the isolation of stations (document 01, "Who names a station", "Numbers at the gate").
 pub mod Calls
 pub mod Rules
+pub mod Reaction
 pub mod Step
 pub mod Runs
 pub mod Refusals
+pub mod Forms
 pub mod Isolation
 pub mod ProofTable

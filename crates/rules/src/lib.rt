@@ -1,5 +1,8 @@
-// The rules of the calls as definitions (specs/), and demand 3, what is said of refusals and the proof table proved of them (proofs/). There is no code here but
-// functions whose contracts are the theorems, so that the check fails where a theorem is gone.
+// The rules of the calls as definitions (specs/), and proved of them (proofs/) demand 3, that a refusal changes no byte, that the byte form
+// of a store does not show, and the proof table. There is no code here but functions whose contracts are the theorems, so that the check
+// fails where a theorem is gone.
+ghost use Rattle.store_layout.specs.Form.{AnyTwoForms};
+ghost use Rattle.rules.specs.Forms.{SameCalls};
 ghost use Rattle.rules.specs.Isolation.{Isolated};
 ghost use Rattle.rules.specs.ProofTable.{ProofTable};
 ghost use Rattle.rules.specs.Refusals.{RefusalsKeep};
@@ -13,6 +16,11 @@ pub fn isolated()
 // A refusal changes no byte.
 pub fn refusals_keep()
     ensures { λ _. ⌜ RefusalsKeep step ⌝ }
+{}
+
+// In any two byte forms of a store each call gives the same answer and leaves corresponding stores.
+pub fn same_calls()
+    ensures { λ _. ⌜ AnyTwoForms SameCalls ⌝ }
 {}
 
 // The lines of document 01's proof table hold of the rules.

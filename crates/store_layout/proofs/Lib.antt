@@ -15,4 +15,5 @@ pub mod Opened
 pub mod SoundBlocks
 pub mod Soundness
 pub mod ValidBytes
+pub mod Forms
 pub mod Indices

@@ -1,5 +1,6 @@
 -- An accepted open leaves a valid store.
 --     openable-parts      what it tells that a store may be opened
+--     can-open            and whatever the form and the length
 --     fresh-count, fresh-station      the stations of a fresh store
 --     valid-fresh         a fresh store is valid
 -- Assumes nothing.
@@ -8,17 +9,18 @@ use mathlib.Core.Bool.{Bool, true, _&&_}
 use mathlib.Core.List.{List}
 use Prim.Native.Nat.{ℕ, suc, _-_, _<_, _≤_}
 use native.Mathlib.Omega.{arith}
-use borrow.Author.Tests.{leb-true, ltb-true, eqb-true}
-use lib.Dec.{leb, ltb, lit≤}
+use borrow.Author.Tests.{leb-true, ltb-true, eqb-true, eq-eqb}
+use lib.Dec.{leb, ltb, eqb, lit≤}
 use lib.ListN.{length, getD}
 use Rattle.laws.specs.All.{all}
-use Rattle.laws.proofs.Bools.{both}
+use Rattle.laws.proofs.Bools.{both, and-true, and-left}
 use Rattle.laws.proofs.Tables.{all-at, length-table, getD-table}
 use Rattle.calendar.specs.Dates.{isDate}
 use Rattle.store_layout.specs.Model.{emptyBlock, emptyStation, stationAt}
 use Rattle.store_layout.specs.Valid.{ValidStation, ValidStore}
 use Rattle.store_layout.specs.Layout.{storeLength}
-use Rattle.store_layout.specs.Opening.{openable, fresh}
+use Rattle.store_layout.specs.Form.{Form}
+use Rattle.store_layout.specs.Opening.{canOpen, openableIn, openable, fresh}
 use Rattle.store_layout.proofs.Validity.{valid-empty}
 
 module _ (year month day : ℕ) (numbers rows : List ℕ) where
@@ -51,7 +53,7 @@ module _ (year month day : ℕ) (numbers rows : List ℕ) where
       record { least = leb-true _ _ (p .0); most = leb-true _ _ (p .1); row = leb-true _ _ (q .1) }
 
   pub openable-parts : (size : ℕ) → openable size year month day numbers rows ≡ true → Openable size
-  unfolding openable entryTest
+  unfolding openableIn canOpen entryTest
   openable-parts size e =
       let g = both e in
       let f = both (g .0) in
@@ -63,14 +65,22 @@ module _ (year month day : ℕ) (numbers rows : List ℕ) where
         some = leb-true _ _ (a .0);
         few = leb-true _ _ (a .1);
         paired = eqb-true _ _ (b .1);
-        long = eqb-true _ _ (c .1);
-        date = d .1;
-        least = λ i l. entry-parts (f .1) i l .least;
-        most = λ i l. entry-parts (f .1) i l .most;
-        row = λ i l. entry-parts (f .1) i l .row;
+        long = eqb-true _ _ (g .1);
+        date = c .1;
+        least = λ i l. entry-parts (d .1) i l .least;
+        most = λ i l. entry-parts (d .1) i l .most;
+        row = λ i l. entry-parts (d .1) i l .row;
         ascending = λ i l.
-            ltb-true _ _ (all-at (λ j. ltb (getD numbers j 0) (getD numbers (suc j) 0)) (length numbers - 1) (g .1) i (omega arith));
+            ltb-true _ _ (all-at (λ j. ltb (getD numbers j 0) (getD numbers (suc j) 0)) (length numbers - 1) (f .1) i (omega arith));
       }
+
+  pub can-open : (form : Form) (size : ℕ) → openableIn form size year month day numbers rows ≡ true → canOpen year month day numbers rows ≡ true
+  unfolding openableIn
+  can-open form size e = and-left _ _ e
+
+  as-long : canOpen year month day numbers rows ≡ true → openable (storeLength (length numbers)) year month day numbers rows ≡ true
+  unfolding openableIn
+  as-long e = and-true _ _ e (eq-eqb (storeLength (length numbers)) (storeLength (length numbers)) refl)
 
   -- ---- the stations of a fresh store
   pub fresh-count : length (fresh year month day numbers rows .stations) ≡ length numbers
@@ -87,9 +97,9 @@ module _ (year month day : ℕ) (numbers rows : List ℕ) where
   unfolding fresh
   fresh-date = refl
 
-  pub valid-fresh : (size : ℕ) → openable size year month day numbers rows ≡ true → ValidStore (fresh year month day numbers rows)
-  valid-fresh size e =
-      let o = openable-parts size e in
+  pub valid-fresh : canOpen year month day numbers rows ≡ true → ValidStore (fresh year month day numbers rows)
+  valid-fresh e =
+      let o = openable-parts (storeLength (length numbers)) (as-long e) in
       record {
         date = fresh-date ∙ o .date;
         some = rw fresh-count (o .some);
@@ -98,11 +108,11 @@ module _ (year month day : ℕ) (numbers rows : List ℕ) where
         ascending = λ i l. ascending o i (rw fresh-count at l);
       }
     where
-      each : Openable size → (i : ℕ) → i < length numbers → ValidStation (stationAt (fresh year month day numbers rows .stations) i)
+      each : Openable (storeLength (length numbers)) → (i : ℕ) → i < length numbers → ValidStation (stationAt (fresh year month day numbers rows .stations) i)
       each o i l =
           rw (fresh-station i l)
           (record { least = o .least i l; most = o .most i l; row = o .row i l; settled = lit≤ tt; block = valid-empty 0 })
 
-      ascending : Openable size → (i : ℕ) → suc i < length numbers
+      ascending : Openable (storeLength (length numbers)) → (i : ℕ) → suc i < length numbers
           → stationAt (fresh year month day numbers rows .stations) i .number < stationAt (fresh year month day numbers rows .stations) (suc i) .number
       ascending o i l = rw (fresh-station i (omega arith), fresh-station (suc i) l) (o .ascending i l)

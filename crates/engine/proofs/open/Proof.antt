@@ -1,7 +1,7 @@
 -- `engine::open` meets its contract.
 -- Assumes nothing.
 use Rattle.rules.specs.Step.{Outcome}
-use Rattle.engine_answers.specs.Replies.{openOutcome}
+use Rattle.engine_answers.specs.Replies.{openIn}
 use Rattle.laws.proofs.Bools.{via, cond-true, cond-false}
 use mathlib.Core.Path.{_≡_, refl, sym, _∙_, ap, subst}
 use borrow.Author.Needs.{needs}
@@ -18,7 +18,7 @@ same-length : tie.Need-same-length
 same-length c = search needs
 
 returns : tie.Need-returns
-unfolding openOutcome
+unfolding openIn
 returns c =
     let o = c .before .before .before .«open» .ensures in
     let e = via (o .accepted) (c .if1 .taken) in
@@ -28,7 +28,7 @@ same-length-2 : tie.Need-same-length-2
 same-length-2 c = search needs
 
 returns-2 : tie.Need-returns-2
-unfolding openOutcome
+unfolding openIn
 returns-2 c =
     let o = c .before .before .before .«open» .ensures in
     let e = via (o .accepted) (c .if1 .left) in

@@ -1,6 +1,6 @@
 -- `engine_settling::settle_at` meets its contract.
 -- Assumes nothing.
-use Rattle.rules.specs.Step.{dateOf}
+use Rattle.rules.specs.Reaction.{dateOf}
 use Rattle.quality.specs.Valid.{ValidSheet}
 use Rattle.quality.proofs.Validity.{raw-sheet-valid}
 use Rattle.store_layout.specs.Updates.{withStation}
