@@ -10,7 +10,7 @@ use Rattle.store_layout.specs.Index.{Index, nowhere, index, indexIn, numbers}
 use Rattle.store_layout.specs.Sound.{sound}
 use Rattle.store_layout.specs.Model.{Station, stationAt}
 use Rattle.rules.specs.Calls.{Answer, refused, accepted, aCell, aDay, day, giveDay, ask}
-use Rattle.rules.specs.Rules.{rule, dayOf, durations}
+use Rattle.rules.specs.Rules.{rule, dayOf}
 use Rattle.rules.specs.Step.{Outcome, step, at, asked, after, dateOf, unchanged}
 use Rattle.capi_arrays.specs.Arrays.{Small, lineOf}
 use Rattle.capi_arrays.proofs.Within.{line-small}
@@ -32,9 +32,9 @@ either-way false o p h k = k
 modest-day : (t : Station) → Modest (dayOf t)
 unfolding dayOf
 modest-day t =
-    let tRs = durations (t .block) in
+    let hs = t .block .heads in
     let s = t .block .checked in
-    either (eqb (t .settled) 1) (aDay (dayLine tRs s)) (refused 11) (line-small tRs s) (tt {0})
+    either (eqb (t .settled) 1) (aDay (dayLine hs s)) (refused 11) (line-small hs s) (tt {0})
 
 modest-at : (p : Index) (f : ℕ → Outcome) (s : List ℕ) → ((i : ℕ) → Modest (f i .answer)) → Modest (at p f s .answer)
 modest-at nowhere f s h = tt

@@ -9,10 +9,10 @@ ghost use Rattle.quality.specs.Cell.{slot};
 ghost use Rattle.quality.specs.Coded.{cell, cells, sheet};
 ghost use Rattle.quality.specs.Elements.{column};
 ghost use Rattle.store_layout.specs.Model.{headOf};
-ghost use Rattle.store_layout.specs.Layout.{byte, blockLength, headLength, cellLength, checkedFrom, headAt, decodeCell, decodeBlock};
+ghost use Rattle.store_layout.specs.Layout.{byte, blockLength, headLength, cellLength, checkedFrom, headAt, decodeHead, decodeCell, decodeBlock};
 ghost use Rattle.store_layout.specs.Updates.{withSlot, withChecked};
 ghost use Rattle.store_block.specs.Areas.{sheetIn, areaFrom, cellAt, withHead, withCell, withColumn};
-ghost use Rattle.store_block.specs.Coded.{directionsOf, durationsOf};
+ghost use Rattle.store_block.specs.Coded.{directionsOf};
 use quality::column::Column;
 use quality::column::OffsetCell;
 use quality::head::SlotHead;
@@ -122,12 +122,31 @@ pub fn directions(block: &[u8]) -> [u8; 9]
     head_bytes(block, DD_IN)
 }
 
-// tR of each slot.
-pub fn durations(block: &[u8]) -> [u8; 9]
-    requires { ⌜ length (now block) ≡ blockLength ⌝ }
-    ensures { λ r. ⌜ r ≡ durationsOf (decodeBlock (now (block .entry))) ⌝ }
+// The head of slot k.
+fn head_of(block: &[u8], k: usize) -> SlotHead
+    requires { ⌜ (length (now block) ≡ blockLength) × (k < 9) ⌝ }
+    ensures { λ r. ⌜ r ≡ decodeHead (now (block .entry)) (headAt k) ⌝ }
 {
-    head_bytes(block, TR_IN)
+    let at = HEAD_LENGTH * k;
+    SlotHead {
+        filed: block[at],
+        ir: block[at + 1],
+        tr: block[at + TR_IN],
+        dd: block[at + DD_IN],
+    }
+}
+
+// The nine slot heads.
+pub fn heads_of(block: &[u8]) -> [SlotHead; 9]
+    requires { ⌜ length (now block) ≡ blockLength ⌝ }
+    ensures { λ r. ⌜ r ≡ decodeBlock (now (block .entry)) .heads ⌝ }
+{
+    let h = head_of(block, 0);
+    let mut r = [h; 9];
+    for k in 0..9 {
+        r[k] = head_of(block, k);
+    }
+    r
 }
 
 // Whether slot k is filed.

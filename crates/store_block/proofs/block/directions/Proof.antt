@@ -2,7 +2,7 @@
 -- Assumes nothing.
 use mathlib.Core.Path.{sym, _∙_}
 use Rattle.store_layout.specs.Layout.{decodeBlock, decodeHead}
-use Rattle.store_block.proofs.Sheets.{map-table}
+use Rattle.laws.proofs.Maps.{map-table}
 use borrow.Author.Needs.{needs}
 use Rattle.store_block.proofs.block.directions.Statement.{statement}
 use Rattle.store_block.proofs.block.directions.Tie as tie

@@ -12,7 +12,8 @@ use Rattle.store_layout.specs.Updates.{withSlot}
 use Rattle.store_block.specs.declared.block.Area.the-variants.{Raw}
 use Rattle.store_block.specs.Areas.{withSheet, withCell}
 use Rattle.store_block.proofs.Filling.{Filling, begun, more, whole}
-use Rattle.store_block.proofs.Sheets.{nine-columns, map-at}
+use Rattle.store_block.proofs.Sheets.{nine-columns}
+use Rattle.laws.proofs.Maps.{map-at}
 use Rattle.laws.specs.Table.{table}
 use Rattle.store_layout.specs.Model.{Block}
 use native.Mathlib.Nat.{le-refl}
