@@ -8,6 +8,7 @@ use Prim.Native.Nat.{ℕ, zero, suc, _≤_, _<_, _*_}
 use native.Mathlib.Omega.{arith}
 use lib.Dec.{eqb}
 use lib.Signed.{ltZ}
+use Rattle.quality.specs.declared.head.SlotHead.{SlotHead}
 use Rattle.quality.specs.Cell.{Cell, slot}
 use Rattle.quality.specs.Elements.{column, temperature}
 use Rattle.daily.specs.Counts.{inColumn, inSheet}
@@ -55,9 +56,9 @@ near none h = tt
 near (some k) h = h
 
 -- ---- the day line
-pub line-small : (tRs : List ℕ) (s : List (List Cell)) → Small (lineOf (dayLine tRs s))
+pub line-small : (hs : List SlotHead) (s : List (List Cell)) → Small (lineOf (dayLine hs s))
 unfolding dayLine warmest coldest
-line-small tRs s =
+line-small hs s =
     let ts = column s temperature in
     record {
       warmest = near (warmest ts) (earliest-below (utmost (λ x y. ltZ y x) ts) 8);

@@ -7,7 +7,7 @@ use Prim.Native.Nat.{ℕ, zero, suc}
 use lib.IntN.{ℤ}
 use lib.Signed.{ltZ}
 use Rattle.laws.specs.All.{all}
-use Rattle.quality.specs.Cell.{Cell, missing, slot}
+use Rattle.quality.specs.Cell.{Cell, missing, there, slot}
 
 -- the first of 0 .. n - 1 at which p holds
 unfoldable pub earliest : (ℕ → Bool) → ℕ → Option ℕ
@@ -21,7 +21,7 @@ earliest p (suc n) = or (earliest p n) (cond (p n) (some n) none)
 -- slot k has a temperature, and none of the slots 0 to 7 has one that is beyond it. `beyond x y`: x is warmer (or colder) than y
 abbrev pub utmost : (ℤ → ℤ → Bool) → List Cell → ℕ → Bool
 utmost beyond ts k =
-    not (missing (slot ts k)) && all (λ j. missing (slot ts j) || not (beyond (slot ts j .value) (slot ts k .value))) 8
+    there (slot ts k) && all (λ j. missing (slot ts j) || not (beyond (slot ts j .value) (slot ts k .value))) 8
 
 unfoldable pub warmest : List Cell → Option ℕ
 warmest ts = earliest (utmost (λ x y. ltZ y x) ts) 8

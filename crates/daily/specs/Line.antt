@@ -1,9 +1,10 @@
--- The day line of a station, from its checked sheet and each slot's tR.
+-- The day line of a station, from its slot heads and its checked sheet.
 -- Assumes nothing.
 use mathlib.Core.List.{List}
 use mathlib.Core.Option.{Option}
 use Prim.Native.Nat.{ℕ}
 use lib.IntN.{ℤ}
+use Rattle.quality.specs.declared.head.SlotHead.{SlotHead}
 use Rattle.quality.specs.Cell.{Cell}
 use Rattle.quality.specs.Elements.{column, temperature, dewPoint, pressure, wind, cloud, rain}
 use Rattle.daily.specs.Means.{Average, average, vapourColumn}
@@ -26,8 +27,8 @@ pub record DayLine : Type 0 where
   pub filled : ℕ
   pub missing : ℕ
 
-unfoldable pub dayLine : List ℕ → List (List Cell) → DayLine
-dayLine tRs s =
+unfoldable pub dayLine : List SlotHead → List (List Cell) → DayLine
+dayLine heads s =
     record {
       temperature = average (column s temperature);
       dewPoint = average (column s dewPoint);
@@ -35,7 +36,7 @@ dayLine tRs s =
       wind = average (column s wind);
       cloud = average (column s cloud);
       vapour = average (vapourColumn (column s dewPoint));
-      rain = rainTotal tRs (column s rain);
+      rain = rainTotal heads (column s rain);
       warmest = Extremes.warmest (column s temperature);
       coldest = Extremes.coldest (column s temperature);
       read = count 1 s;

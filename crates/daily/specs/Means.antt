@@ -9,7 +9,7 @@ use lib.IntN.{ℤ, pos, _+ℤ_}
 use Rattle.laws.specs.All.{all}
 use Rattle.laws.specs.Table.{table}
 use Rattle.vapour.specs.Vapour.{pressure}
-use Rattle.quality.specs.Cell.{Cell, missing, discarded, slot}
+use Rattle.quality.specs.Cell.{Cell, missing, there, discarded, slot}
 
 -- "Each mean is absent, fully read or partly mended, the last two with a float: the eightfold sum times 0.125": with the eightfold sum
 pub data Average : Type 0 where
@@ -33,7 +33,7 @@ repaired c = eqb (c .state) 2 || eqb (c .state) 3
 -- "Any missing: absent; any state 2 or 3: partly mended"
 unfoldable pub average : List Cell → Average
 average xs =
-    cond (all (λ k. not (missing (slot xs k))) 8)
+    cond (all (λ k. there (slot xs k)) 8)
     (cond (all (λ k. not (repaired (slot xs k))) 8) (read (eightfold xs)) (mended (eightfold xs)))
     absent
 

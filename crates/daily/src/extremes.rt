@@ -12,6 +12,7 @@ use crate::Extreme;
 use quality::column::Column;
 use quality::column::OffsetCell;
 use quality::column::at;
+use quality::column::is_missing;
 
 // x is beyond y, both in offset binary: warmer, or else colder.
 fn beyond(warmer: bool, x: u16, y: u16) -> bool
@@ -27,7 +28,7 @@ fn beyond(warmer: bool, x: u16, y: u16) -> bool
 fn ahead(warmer: bool, x: OffsetCell, y: OffsetCell) -> bool
     ensures { λ r. ⌜ r ≡ Parts.ahead warmer (cell x) (cell y) ⌝ }
 {
-    (x.state != 0) & ((y.state == 0) | beyond(warmer, x.value, y.value))
+    !is_missing(x) & (is_missing(y) | beyond(warmer, x.value, y.value))
 }
 
 // Slot k where it is ahead of the best so far, else that one.
@@ -50,8 +51,7 @@ pub fn extreme(t: Column, warmer: bool) -> Extreme
     for k in 1..8 {
         best = better(warmer, t, best, k);
     }
-    let d = at(t, best);
-    if d.state == 0 {
+    if is_missing(at(t, best)) {
         return Extreme::Absent;
     }
     Extreme::Slot(best)

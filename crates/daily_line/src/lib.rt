@@ -1,4 +1,4 @@
-// The day line of one station, from its nine checked columns and each slot's tR: document 01, "The day line".
+// The day line of one station, from its nine checked columns and its slot heads: document 01, "The day line".
 ghost use Rattle.quality.specs.Coded.{sheet};
 ghost use Rattle.daily.specs.Coded.{Says};
 ghost use Rattle.daily.specs.Line.{dayLine};
@@ -9,10 +9,11 @@ use daily_means::mean;
 use daily_means::vapours::vapour_column;
 use daily_rain::rain_total;
 use quality::column::Column;
+use quality::head::SlotHead;
 
-// The day line from the checked columns, in the elements' order T, D, P, W, C, V, R, X, M, and each slot's tR.
-pub fn day_line(checked: [Column; 9], durations: [u8; 9]) -> DayLine
-    ensures { λ r. ⌜ Says r (dayLine durations (sheet checked)) ⌝ }
+// The day line from the checked columns, in the elements' order T, D, P, W, C, V, R, X, M, and the slot heads.
+pub fn day_line(checked: [Column; 9], heads: [SlotHead; 9]) -> DayLine
+    ensures { λ r. ⌜ Says r (dayLine heads (sheet checked)) ⌝ }
 {
     let t = checked[0];
     let d = checked[1];
@@ -27,7 +28,7 @@ pub fn day_line(checked: [Column; 9], durations: [u8; 9]) -> DayLine
         wind: mean(w),
         cloud: mean(c),
         vapour: mean(vapour_column(d)),
-        rain: rain_total(durations, r),
+        rain: rain_total(heads, r),
         warmest: extreme(t, true),
         coldest: extreme(t, false),
         read: count(checked, 1),

@@ -10,6 +10,7 @@ use daily::Mean;
 use laws::difference;
 use quality::column::Column;
 use quality::column::at;
+use quality::column::is_missing;
 
 // The slots 0 to 7 of a column: their values added, in offset binary; that none is missing; that none is corrected or filled.
 struct Tally {
@@ -30,7 +31,7 @@ fn tally_of(c: Column) -> Tally
     for k in 0..8 {
         let d = at(c, k);
         sum += d.value as u32;
-        complete = complete & (d.state != 0);
+        complete = complete & !is_missing(d);
         plain = plain & !((d.state == 2) | (d.state == 3));
     }
     Tally {

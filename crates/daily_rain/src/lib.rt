@@ -1,4 +1,4 @@
-// The day's rain from R and each slot's tR.
+// The day's rain from R and the slot heads.
 ghost use mathlib.Core.Path.{_≡_};
 ghost use Prim.Native.Nat.{_<_};
 ghost use Rattle.quality.specs.Coded.{cells};
@@ -9,12 +9,23 @@ use daily::Rain;
 use laws::difference;
 use quality::column::Column;
 use quality::column::at;
+use quality::column::is_missing;
+use quality::head::SlotHead;
 
 // An amount of rain: sum − offset tenths of a millimetre where it is not missing.
 struct Amount {
     missing: bool,
     sum: u32,
     offset: u32,
+}
+
+// tR of slot k.
+fn tr_at(heads: [SlotHead; 9], k: usize) -> u8
+    requires { ⌜ k < 9 ⌝ }
+    ensures { λ r. ⌜ r ≡ Rule.tR heads k ⌝ }
+{
+    let h = heads[k];
+    h.tr
 }
 
 // R of slot k.
@@ -24,7 +35,7 @@ fn amount_at(r: Column, k: usize) -> Amount
 {
     let d = at(r, k);
     Amount {
-        missing: d.state == 0,
+        missing: is_missing(d),
         sum: d.value as u32,
         offset: 32768,
     }
@@ -44,13 +55,13 @@ fn together(a: Amount, b: Amount) -> Amount
 }
 
 // A half of the day: the slot that ends it with tR 2, else that and the slot six hours before, both with tR 1.
-fn half(durations: [u8; 9], r: Column, first: usize, last: usize) -> Amount
+fn half(heads: [SlotHead; 9], r: Column, first: usize, last: usize) -> Amount
     requires { ⌜ first < 9 ⌝ }
     requires { ⌜ last < 9 ⌝ }
-    ensures { λ a. ⌜ Stands 2 a (Rule.half durations (cells r) first last) ⌝ }
+    ensures { λ a. ⌜ Stands 2 a (Rule.half heads (cells r) first last) ⌝ }
 {
-    let before = durations[first];
-    let end = durations[last];
+    let before = tr_at(heads, first);
+    let end = tr_at(heads, last);
     if end == 2 {
         return amount_at(r, last);
     }
@@ -76,11 +87,11 @@ fn answer(a: Amount) -> Rain
 }
 
 // R of slot 8 with tR 4, else the two halves.
-pub fn rain_total(durations: [u8; 9], r: Column) -> Rain
-    ensures { λ x. ⌜ x ≡ rainOf (Rule.rainTotal durations (cells r)) ⌝ }
+pub fn rain_total(heads: [SlotHead; 9], r: Column) -> Rain
+    ensures { λ x. ⌜ x ≡ rainOf (Rule.rainTotal heads (cells r)) ⌝ }
 {
-    if durations[8] == 4 {
+    if tr_at(heads, 8) == 4 {
         return answer(amount_at(r, 8));
     }
-    answer(together(half(durations, r, 2, 4), half(durations, r, 6, 8)))
+    answer(together(half(heads, r, 2, 4), half(heads, r, 6, 8)))
 }

@@ -12,7 +12,7 @@ use engine_answers::DayReply;
 use laws::difference;
 use store_block::block::Area;
 use store_block::block::cell_of;
-use store_block::block::durations;
+use store_block::block::heads_of;
 use store_block::block::sheet_of;
 use store_entries::block_start;
 use store_entries::is_settled;
@@ -51,6 +51,6 @@ pub fn give_day(store: &[u8], index: usize) -> DayReply
     let a = block_start(store, index);
     let b = a + BLOCK_LENGTH;
     let checked = sheet_of(&store[a..b], Area::Checked);
-    let tr = durations(&store[a..b]);
-    DayReply::Line(daily_line::day_line(checked, tr))
+    let heads = heads_of(&store[a..b]);
+    DayReply::Line(daily_line::day_line(checked, heads))
 }

@@ -11,7 +11,7 @@ use Rattle.store_layout.specs.Form.{ours}
 use Rattle.store_layout.specs.Sound.{sound}
 use Rattle.store_layout.specs.Model.{Station, stationAt}
 use Rattle.rules.specs.Calls.{Answer, refused, aDay, onDay, day, giveDay, ask}
-use Rattle.rules.specs.Rules.{rule, dayOf, durations}
+use Rattle.rules.specs.Rules.{rule, dayOf}
 use Rattle.rules.specs.Reaction.{stays, at}
 use Rattle.rules.specs.Step.{Outcome, outcomeIn, stepIn, step, asked, unchanged}
 use Rattle.capi_arrays.specs.Arrays.{Small, lineOf}
@@ -31,9 +31,9 @@ either-way false o p h k = k
 modest-day : (t : Station) → Modest (dayOf t)
 unfolding dayOf
 modest-day t =
-    let tRs = durations (t .block) in
+    let hs = t .block .heads in
     let s = t .block .checked in
-    either (eqb (t .settled) 1) (aDay (dayLine tRs s)) (refused 11) (line-small tRs s) (tt {0})
+    either (eqb (t .settled) 1) (aDay (dayLine hs s)) (refused 11) (line-small hs s) (tt {0})
 
 modest-at : (p : Index) (f : ℕ → Answer) (s : List ℕ) → ((i : ℕ) → Modest (f i)) → Modest (outcomeIn ours (at p (λ i. stays (f i))) s .answer)
 modest-at nowhere f s h = tt

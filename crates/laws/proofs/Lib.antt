@@ -4,6 +4,7 @@ pub mod Bools
 pub mod Every
 pub mod Tables
 pub mod Fill
+pub mod Maps
 pub mod Offset
 pub mod Differences
 pub mod Signed

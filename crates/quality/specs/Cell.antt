@@ -1,6 +1,6 @@
 -- A cell, as document 01's "The store" has it: state, flag and value.
 -- Assumes nothing.
-use mathlib.Core.Bool.{Bool}
+use mathlib.Core.Bool.{Bool, not}
 use mathlib.Core.List.{List}
 use Prim.Native.Nat.{ℕ}
 use lib.Dec.{eqb}
@@ -16,6 +16,10 @@ pub record Cell : Type 0 where
 -- "Missing" means that there is no value: state 0
 abbrev pub missing : Cell → Bool
 missing c = eqb (c .state) 0
+
+-- there, or present: it has one
+abbrev pub there : Cell → Bool
+there c = not (missing c)
 
 -- "Discard means: missing, with the flag."
 abbrev pub discarded : ℕ → Cell

@@ -1,5 +1,4 @@
 -- The four steps of document 01's "Settling a station", each on the cells that its rule speaks of.
--- "a test that meets a missing value does nothing": each rule begins with that test.
 -- Assumes nothing.
 use mathlib.Core.Bool.{Bool, not, cond, _&&_, _||_}
 use mathlib.Core.List.{List}
@@ -12,17 +11,25 @@ use Rattle.laws.specs.Table.{table}
 use Rattle.quality.specs.Cell.{Cell, missing, discarded, flagged, slot}
 use Rattle.quality.specs.Limits.{Limits}
 
+-- "a test that meets a missing value does nothing": the cells that the steps pass over. Each rule begins with that test
+abbrev pub passedOver : Cell → Bool
+passedOver c = missing c
+
+-- "both neighbours present": a cell that the steps pass over is no neighbour in time
+abbrev pub noNeighbour : Cell → Bool
+noNeighbour c = passedOver c
+
 -- ---- 1. Range: "below min2 or above max2 discard, flag 1; else below min1 or above max1, flag 4"
 unfoldable pub rangeCell : Limits → Cell → Cell
 rangeCell l c =
-    cond (missing c) c
+    cond (passedOver c) c
     (cond (ltZ (c .value) (l .min2) || ltZ (l .max2) (c .value)) (discarded 1)
     (cond (ltZ (c .value) (l .min1) || ltZ (l .max1) (c .value)) (flagged 4 c) c))
 
 -- ---- 2. Internal
 -- "D above T: D discarded, flag 2."
 unfoldable pub dewCell : Cell → Cell → Cell
-dewCell t d = cond (missing t || missing d) d (cond (ltZ (t .value) (d .value)) (discarded 2) d)
+dewCell t d = cond (passedOver t || passedOver d) d (cond (ltZ (t .value) (d .value)) (discarded 2) d)
 
 abbrev pub isZero : ℤ → Bool
 isZero z = eqb (natAbs z) 0
@@ -30,12 +37,12 @@ isZero z = eqb (natAbs z) 0
 -- "dd 0 with W above 0, or dd 1 to 36 with W 0: W flag 4."
 unfoldable pub windCell : ℕ → Cell → Cell
 windCell dd w =
-    cond (missing w) w
+    cond (passedOver w) w
     (cond ((eqb dd 0 && ltZ (pos 0) (w .value)) || (leb 1 dd && leb dd 36 && isZero (w .value))) (flagged 4 w) w)
 
 -- "X of slot 4 below M of slot 0": the day's maximum below the night's minimum
 unfoldable pub maximumBelowMinimum : Cell → Cell → Bool
-maximumBelowMinimum x m = not (missing x) && not (missing m) && ltZ (x .value) (m .value)
+maximumBelowMinimum x m = not (passedOver x) && not (passedOver m) && ltZ (x .value) (m .value)
 
 -- ---- 3. Time
 abbrev pub apart : ℤ → ℤ → ℕ
@@ -60,13 +67,13 @@ spikeCell mends a x b =
 -- "both neighbours present: if the value differs from each by more than 100, then .."
 unfoldable pub timeCell : Bool → Cell → Cell → Cell → Cell
 timeCell mends a x b =
-    cond (missing a || missing x || missing b) x
+    cond (noNeighbour a || passedOver x || noNeighbour b) x
     (cond (far (x .value) (a .value) && far (x .value) (b .value)) (spikeCell mends a x b) x)
 
 -- ---- 4. Fill: "missing, with neighbours a, b present after step 3: floor((a + b + 1) / 2), state 3, flag kept"
 unfoldable pub fillCell : Cell → Cell → Cell → Cell
 fillCell a x b =
-    cond (missing x && not (missing a) && not (missing b))
+    cond (missing x && not (noNeighbour a) && not (noNeighbour b))
     (record { state = 3; flag = x .flag; value = shrZ (a .value +ℤ b .value +ℤ pos 1) 2 })
     x
 

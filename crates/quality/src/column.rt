@@ -2,8 +2,9 @@
 ghost use mathlib.Core.Path.{_≡_};
 ghost use Prim.Native.Nat.{_<_};
 ghost use lib.ListN.{set};
-ghost use Rattle.quality.specs.Cell.{slot, discarded, flagged};
+ghost use Rattle.quality.specs.Cell.{missing, slot, discarded, flagged};
 ghost use Rattle.quality.specs.Coded.{cell, cells};
+ghost use Rattle.quality.specs.Steps.{passedOver};
 
 // A cell: its value v is kept as v + 32768.
 pub struct OffsetCell {
@@ -40,6 +41,20 @@ pub fn put(c: Column, k: usize, d: OffsetCell) -> Column
     r.states[k] = d.state;
     r.flags[k] = d.flag;
     r
+}
+
+// Whether the cell has no value.
+pub fn is_missing(d: OffsetCell) -> bool
+    ensures { λ r. ⌜ r ≡ missing (cell d) ⌝ }
+{
+    d.state == 0
+}
+
+// Whether the steps pass over the cell.
+pub fn passed_over(d: OffsetCell) -> bool
+    ensures { λ r. ⌜ r ≡ passedOver (cell d) ⌝ }
+{
+    is_missing(d)
 }
 
 // Missing, with the flag.

@@ -5,6 +5,7 @@ ghost use Rattle.quality.specs.Steps.{dewCell, windCell};
 ghost use Rattle.quality.specs.Steps as Steps;
 use crate::column::OffsetCell;
 use crate::column::discard;
+use crate::column::passed_over;
 use crate::column::with_flag;
 use crate::value::below;
 use crate::value::is_zero;
@@ -13,8 +14,8 @@ use crate::value::is_zero;
 pub fn dew_cell(t: OffsetCell, d: OffsetCell) -> OffsetCell
     ensures { λ r. ⌜ cell r ≡ dewCell (cell t) (cell d) ⌝ }
 {
-    let missing = (t.state == 0) | (d.state == 0);
-    if missing {
+    let untested = passed_over(t) | passed_over(d);
+    if untested {
         return d;
     }
     if below(t.value, d.value) {
@@ -27,7 +28,7 @@ pub fn dew_cell(t: OffsetCell, d: OffsetCell) -> OffsetCell
 pub fn wind_cell(dd: u8, w: OffsetCell) -> OffsetCell
     ensures { λ r. ⌜ cell r ≡ windCell dd (cell w) ⌝ }
 {
-    if w.state == 0 {
+    if passed_over(w) {
         return w;
     }
     let v = w.value;
@@ -44,5 +45,5 @@ pub fn wind_cell(dd: u8, w: OffsetCell) -> OffsetCell
 pub fn maximum_below_minimum(x: OffsetCell, m: OffsetCell) -> bool
     ensures { λ r. ⌜ r ≡ Steps.maximumBelowMinimum (cell x) (cell m) ⌝ }
 {
-    (x.state != 0) & (m.state != 0) & below(x.value, m.value)
+    !passed_over(x) & !passed_over(m) & below(x.value, m.value)
 }

@@ -4,6 +4,7 @@ ghost use Rattle.quality.specs.Coded.{cell, limitsOf};
 ghost use Rattle.quality.specs.Steps.{rangeCell};
 use crate::column::OffsetCell;
 use crate::column::discard;
+use crate::column::passed_over;
 use crate::column::with_flag;
 use crate::limits::OffsetLimits;
 use crate::value::below;
@@ -13,7 +14,7 @@ pub fn range_cell(l: OffsetLimits, d: OffsetCell) -> OffsetCell
     ensures { λ r. ⌜ cell r ≡ rangeCell (limitsOf l) (cell d) ⌝ }
 {
     let v = d.value;
-    if d.state == 0 {
+    if passed_over(d) {
         return d;
     }
     let out = below(v, l.min2) | below(l.max2, v);

@@ -3,13 +3,22 @@ ghost use mathlib.Core.Path.{_≡_};
 ghost use Prim.Native.Nat.{_≤_};
 ghost use lib.IntN.{natAbs};
 ghost use Rattle.quality.specs.Coded.{cell};
-ghost use Rattle.quality.specs.Steps.{spikeCell, timeCell, fillCell};
+ghost use Rattle.quality.specs.Steps.{noNeighbour, spikeCell, timeCell, fillCell};
 use crate::column::OffsetCell;
 use crate::column::discard;
+use crate::column::is_missing;
+use crate::column::passed_over;
 use crate::value::far;
 use crate::value::middle;
 use crate::value::near;
 use crate::value::negative;
+
+// Whether the cell is no neighbour in time.
+fn no_neighbour(d: OffsetCell) -> bool
+    ensures { λ r. ⌜ r ≡ noNeighbour (cell d) ⌝ }
+{
+    passed_over(d)
+}
 
 // A value x that differs from both neighbours: its negative where that is near both and the element mends, else discarded.
 fn mended(mends: bool, a: OffsetCell, x: OffsetCell, b: OffsetCell) -> OffsetCell
@@ -33,8 +42,8 @@ pub fn time_cell(mends: bool, a: OffsetCell, x: OffsetCell, b: OffsetCell) -> Of
     requires { ⌜ natAbs (cell x .value) ≤ 32767 ⌝ }
     ensures { λ r. ⌜ cell r ≡ timeCell mends (cell a) (cell x) (cell b) ⌝ }
 {
-    let missing = (a.state == 0) | (x.state == 0) | (b.state == 0);
-    if missing {
+    let untested = no_neighbour(a) | passed_over(x) | no_neighbour(b);
+    if untested {
         return x;
     }
     let odd = far(x.value, a.value) & far(x.value, b.value);
@@ -48,7 +57,7 @@ pub fn time_cell(mends: bool, a: OffsetCell, x: OffsetCell, b: OffsetCell) -> Of
 pub fn fill_cell(a: OffsetCell, x: OffsetCell, b: OffsetCell) -> OffsetCell
     ensures { λ r. ⌜ cell r ≡ fillCell (cell a) (cell x) (cell b) ⌝ }
 {
-    let gap = (x.state == 0) & (a.state != 0) & (b.state != 0);
+    let gap = is_missing(x) & !no_neighbour(a) & !no_neighbour(b);
     if gap {
         return OffsetCell {
             state: 3,

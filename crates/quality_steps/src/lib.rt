@@ -16,7 +16,8 @@ use quality_columns::time_column;
 use quality_columns::wind_column;
 use quality_limits::limits_for;
 
-fn range_all(row: usize, warm: bool, s: [Column; 9]) -> [Column; 9]
+// 1. Range: every element's column against its limits.
+pub fn range_all(row: usize, warm: bool, s: [Column; 9]) -> [Column; 9]
     requires { ⌜ row < 2 ⌝ }
     ensures { λ r. ⌜ sheet r ≡ range row warm (sheet s) ⌝ }
 {
@@ -28,7 +29,8 @@ fn range_all(row: usize, warm: bool, s: [Column; 9]) -> [Column; 9]
     r
 }
 
-fn internal_all(dd: [u8; 9], s: [Column; 9]) -> [Column; 9]
+// 2. Internal: dew points beside temperatures, wind speeds beside each slot's dd, the maximum of the day beside the minimum of the night.
+pub fn internal_all(dd: [u8; 9], s: [Column; 9]) -> [Column; 9]
     ensures { λ r. ⌜ sheet r ≡ internal dd (sheet s) ⌝ }
 {
     let t = s[0];
@@ -58,7 +60,8 @@ fn time_element(e: usize, c: Column) -> Column
     c
 }
 
-fn time_all(s: [Column; 9]) -> [Column; 9]
+// 3. Time: T, D and P, each value beside its neighbours in time.
+pub fn time_all(s: [Column; 9]) -> [Column; 9]
     requires { ⌜ ValidSheet (sheet s) ⌝ }
     ensures { λ r. ⌜ sheet r ≡ time (sheet s) ⌝ }
 {
@@ -80,7 +83,8 @@ fn fill_element(e: usize, c: Column) -> Column
     c
 }
 
-fn fill_all(s: [Column; 9]) -> [Column; 9]
+// 4. Fill: T, D, P and W, what is missing between two neighbours in time.
+pub fn fill_all(s: [Column; 9]) -> [Column; 9]
     ensures { λ r. ⌜ sheet r ≡ fill (sheet s) ⌝ }
 {
     let mut r = s;

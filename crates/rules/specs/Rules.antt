@@ -60,12 +60,9 @@ abbrev pub fileIn : Slot → Indicators → List Value → Station → Effect
 fileIn Nothing head values t = keeps (refused 7)
 fileIn (At k) head values t = fileAt k head values t
 
--- each slot's dd; each slot's tR
+-- each slot's dd
 abbrev pub directions : Block → List ℕ
 directions b = map (λ (h : SlotHead). h .dd) (b .heads)
-
-abbrev pub durations : Block → List ℕ
-durations b = map (λ (h : SlotHead). h .tr) (b .heads)
 
 -- the station with another settled mark
 abbrev pub withMark : ℕ → Station → Station
@@ -106,7 +103,7 @@ cellOf e k t =
     cond (leb e 8 && leb k 8) (cond (eqb (t .settled) 1) (aCell (slot (column (t .block .checked) e) k)) (refused 11)) (refused 12)
 
 unfoldable pub dayOf : Station → Answer
-dayOf t = cond (eqb (t .settled) 1) (aDay (dayLine (durations (t .block)) (t .block .checked))) (refused 11)
+dayOf t = cond (eqb (t .settled) 1) (aDay (dayLine (t .block .heads) (t .block .checked))) (refused 11)
 
 unfoldable pub rule : Date → Request → Station → Effect
 rule d (takeNil yy gg) t = nilIn (slotOf (d .year) (d .month) (d .day) yy gg)

@@ -1,12 +1,12 @@
 -- What is read of a block's bytes, sheet by sheet; and its heads.
 -- Assumes nothing.
 use mathlib.Core.Path.{_≡_, refl, sym, _∙_, ap}
-use mathlib.Core.List.{List, [], _∷_, map}
-use Prim.Native.Nat.{ℕ, zero, suc, _<_}
-use native.Mathlib.Nat.{not-suc-le-zero, le-of-suc-le-suc}
-use lib.ListN.{length, getD, set}
+use mathlib.Core.List.{List, [], map}
+use Prim.Native.Nat.{ℕ, _<_}
+use lib.ListN.{length, set}
 use lib.Seq.{set-getD, set-set, getD-set-same}
 use Rattle.laws.specs.Table.{table}
+use Rattle.laws.proofs.Maps.{map-table}
 use Rattle.laws.proofs.Tables.{getD-table, length-table}
 use Rattle.quality.specs.Cell.{Cell, none, slot}
 use Rattle.quality.specs.Elements.{column}
@@ -54,22 +54,6 @@ column-cell Raw e k xs c b l =
     λ d. record { heads = b .heads; raw = put-again (b .raw) e k xs c l d; checked = b .checked }
 column-cell Checked e k xs c b l =
     λ d. record { heads = b .heads; raw = b .raw; checked = put-again (b .checked) e k xs c l d }
-
--- ---- lists under a function
-pub map-set : {A B : Type 0} (f : A → B) (l : List A) (i : ℕ) (y : A) → map f (set l i y) ≡ set (map f l) i (f y)
-map-set f [] i y = refl
-map-set f (x ∷ xs) zero y = refl
-map-set {B = B} f (x ∷ xs) (suc i) y = ap (λ (zs : List B). f x ∷ zs) (map-set f xs i y)
-
-pub map-at : {A B : Type 0} (f : A → B) (l : List A) (k : ℕ) (d : A) (d′ : B) → k < length l → getD (map f l) k d′ ≡ f (getD l k d)
-map-at f [] k d d′ h = absurd (not-suc-le-zero h)
-map-at f (x ∷ xs) zero d d′ h = refl
-map-at f (x ∷ xs) (suc k) d d′ h = map-at f xs k d d′ (le-of-suc-le-suc h)
-
-pub map-table : {A B : Type 0} (f : A → B) (n : ℕ) (g : ℕ → A) → map f (table n g) ≡ table n (λ k. f (g k))
-unfolding table
-map-table f zero g = refl
-map-table {B = B} f (suc n) g = ap (λ (zs : List B). f (g zero) ∷ zs) (map-table f n (λ k. g (suc k)))
 
 -- ---- a field of each slot head
 pub each-head : (f : SlotHead → ℕ) (b : List ℕ) → table 9 (λ k. f (decodeHead b (headAt k))) ≡ map f (decodeBlock b .heads)

@@ -11,7 +11,7 @@ ghost use Rattle.store_layout.specs.Model.{headOf};
 ghost use Rattle.store_layout.specs.Layout.{blockLength, cellLength, checkedFrom, decodeCell, decodeBlock};
 ghost use Rattle.store_layout.specs.Updates.{withSlot, withChecked};
 ghost use Rattle.store_block.specs.Areas.{sheetIn, areaFrom, cellAt, withCell, withColumn};
-ghost use Rattle.store_block.specs.Coded.{directionsOf, durationsOf};
+ghost use Rattle.store_block.specs.Coded.{directionsOf};
 use quality::column::Column;
 use quality::column::OffsetCell;
 use quality::head::SlotHead;
@@ -122,18 +122,6 @@ pub fn directions(block: &[u8]) -> [u8; 9]
     let mut r = [0; 9];
     for k in 0..9 {
         r[k] = head_at(block, HEAD_LENGTH * k).dd;
-    }
-    r
-}
-
-// tR of each slot.
-pub fn durations(block: &[u8]) -> [u8; 9]
-    requires { ⌜ length (now block) ≡ blockLength ⌝ }
-    ensures { λ r. ⌜ r ≡ durationsOf (decodeBlock (now (block .entry))) ⌝ }
-{
-    let mut r = [0; 9];
-    for k in 0..9 {
-        r[k] = head_at(block, HEAD_LENGTH * k).tr;
     }
     r
 }

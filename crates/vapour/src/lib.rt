@@ -1,24 +1,25 @@
 // The vapour pressure at a dew point, looked up in a table (`table`), and the recurrence that the table's numbers come
-// from (`recurrence`).
+// from (`recurrence`). A dew point is given in tenths of a degree, in offset binary (v + 32768). What the table looks like
+// is known here alone.
 mod answer;
 pub mod recurrence;
-pub mod table;
+mod table;
 
 pub use answer::Pressure;
 ghost use mathlib.Core.Path.{_≡_};
-ghost use Rattle.laws.specs.Offset.{value};
-ghost use Rattle.vapour.specs.Answer.{told};
-ghost use Rattle.vapour.specs.Vapour.{pressure, Entries};
+ghost use mathlib.Core.List.{map};
+ghost use Rattle.vapour.specs.Answer.{told, pressureAt};
+ghost use Rattle.vapour.specs.Vapour.{Entries};
 
 // The lowest and the highest dew point of the table, −500 and 500 tenths of a degree, in offset binary.
 const LOWEST: u16 = 32268;
 
 const HIGHEST: u16 = 33268;
 
-// The vapour pressure at a dew point in tenths of a degree, which is given in offset binary (v + 32768), from the table.
-pub fn pressure_in(table: &[u16], dew_point: u16) -> Pressure
+// The vapour pressure at a dew point from the table.
+fn pressure_in(table: &[u16], dew_point: u16) -> Pressure
     requires { ⌜ Entries (now table) ⌝ }
-    ensures { λ r. ⌜ told r ≡ pressure (value «dew_point») ⌝ }
+    ensures { λ r. ⌜ told r ≡ pressureAt «dew_point» ⌝ }
 {
     if dew_point < LOWEST {
         return Pressure::Missing;
@@ -29,10 +30,22 @@ pub fn pressure_in(table: &[u16], dew_point: u16) -> Pressure
     Pressure::Hundredths(table::at(table, (dew_point - LOWEST) as usize))
 }
 
-// The same for one lookup alone.
+// The vapour pressure at one dew point.
 pub fn pressure(dew_point: u16) -> Pressure
-    ensures { λ r. ⌜ told r ≡ pressure (value «dew_point») ⌝ }
+    ensures { λ r. ⌜ told r ≡ pressureAt «dew_point» ⌝ }
 {
     let entries = table::entries();
     pressure_in(&entries, dew_point)
+}
+
+// The vapour pressures at nine dew points. The table is copied once for all of them.
+pub fn pressures(dew_points: [u16; 9]) -> [Pressure; 9]
+    ensures { λ r. ⌜ map told r ≡ map pressureAt «dew_points» ⌝ }
+{
+    let entries = table::entries();
+    let mut r = [Pressure::Missing; 9];
+    for k in 0..9 {
+        r[k] = pressure_in(&entries, dew_points[k]);
+    }
+    r
 }

@@ -1,11 +1,12 @@
 -- `daily_means::tally_of` meets its contract.
 -- Assumes nothing.
 use mathlib.Core.Bool.{not}
-use mathlib.Core.Path.{_≡_, refl}
+use mathlib.Core.Path.{_≡_, refl, _∙_, ap}
 use Prim.Native.Nat.{_-_}
 use native.Mathlib.Omega.{arith}
 use borrow.Author.Needs.{needs}
-use Rattle.quality.specs.Cell.{missing}
+use Rattle.laws.proofs.Bools.{and-eq}
+use Rattle.quality.specs.Cell.{there}
 use Rattle.quality.specs.Coded.{cell, cells}
 use Rattle.daily.specs.Means.{repaired, sum}
 use Rattle.daily_means.proofs.Sums.{Running, all-turn, done, sum-turn}
@@ -31,7 +32,9 @@ loop-again c =
       upto = search needs;
       most = search needs;
       sum = sum-turn xs (l .loop .k) (cell (r .result)) (r .ensures) (l .loop .sum) (r .result .value) refl (l .loop .inv .sum);
-      complete = all-turn xs (l .loop .k) (cell (r .result)) (r .ensures) (λ x. not (missing x)) (l .loop .complete) (l .loop .inv .complete);
+      complete =
+          and-eq {r = l .loop .complete} refl (ap not (c .before .before .is-missing .ensures))
+          ∙ all-turn xs (l .loop .k) (cell (r .result)) (r .ensures) there (l .loop .complete) (l .loop .inv .complete);
       plain = all-turn xs (l .loop .k) (cell (r .result)) (r .ensures) (λ x. not (repaired x)) (l .loop .plain) (l .loop .inv .plain);
     }
 
@@ -51,6 +54,7 @@ tally-of-spec =
     (λ c κs. search needs)
     (λ c. search needs)
     (λ c. search needs)
+    (λ c κs. search needs)
     (λ c. search needs)
     (λ c. search needs)
     loop-again

@@ -1,6 +1,6 @@
 -- `daily_rain::rain_total` meets its contract.
 -- Assumes nothing.
-use mathlib.Core.Path.{_∙_, ap, ap₂}
+use mathlib.Core.Path.{_∙_, sym, ap, ap₂}
 use borrow.Author.Needs.{needs}
 use borrow.Author.Tests.{eq-eqb, ne-eqb}
 use Rattle.laws.proofs.Bools.{skip, took}
@@ -12,21 +12,23 @@ use Rattle.daily_rain.proofs.rain_total.Tie as tie
 returns : tie.Need-returns
 unfolding rainTotal
 returns c =
-    c .answer .ensures ∙ ap rainOf (c .before .amount-at .ensures .amount ∙ took _ _ _ (eq-eqb _ _ (c .before .before .if1 .taken)))
+    let i = c .before .before in
+    c .answer .ensures ∙ ap rainOf (c .before .amount-at .ensures .amount ∙ took _ _ _ (eq-eqb _ _ (sym (i .before .tr-at .ensures) ∙ i .if1 .taken)))
 
 returns-2 : tie.Need-returns-2
 unfolding rainTotal
 returns-2 c =
     let t = c .before in
+    let i = t .before .before .before in
     c .answer2 .ensures ∙ ap rainOf
-    (skip _ _ _ _ (ne-eqb _ _ (t .before .before .before .if1 .left))
+    (skip _ _ _ _ (ne-eqb _ _ (λ e. i .if1 .left (i .before .tr-at .ensures ∙ e)))
     (t .together .ensures .amount ∙ ap₂ together (t .before .before .half .ensures .amount) (t .before .half2 .ensures .amount)))
 
 pub rain-total-spec : {M : Type 1} → statement M
 rain-total-spec =
     tie.close
     (tie.spec
-    (λ c. search needs)
+    (λ c κs. search needs)
     (λ c κs. search needs)
     (λ c κs. search needs)
     returns

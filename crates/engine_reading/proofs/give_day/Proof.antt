@@ -4,7 +4,6 @@ use Rattle.engine_answers.specs.declared.DayReply.the-variants as reply
 use Rattle.engine_answers.specs.Replies.{SaysDay}
 use Rattle.rules.specs.Rules.{dayOf}
 use Rattle.rules.specs.Calls.{Answer}
-use Rattle.store_block.specs.Coded.{durationsOf}
 use Rattle.daily.specs.Line.{dayLine}
 use Rattle.daily.specs.Line as Line
 use Rattle.daily.specs.Coded.{Says}
@@ -21,7 +20,7 @@ use Rattle.engine_reading.proofs.give_day.Tie as tie
 use Rattle.engine_reading.proofs.give_day.Reads as reads
 use Rattle.engine_reading.proofs.give_day.Lts as lts
 use Rattle.daily_line.proofs.day_line.Reads as day-line-reads
-use Rattle.store_block.proofs.block.durations.Reads as durations-reads
+use Rattle.store_block.proofs.block.heads_of.Reads as heads-of-reads
 use Rattle.store_block.proofs.block.sheet_of.Reads as sheet-of-reads
 use Rattle.store_entries.proofs.block_start.Reads as block-start-reads
 use Rattle.store_entries.proofs.is_settled.Reads as is-settled-reads
@@ -51,17 +50,17 @@ part-sheet-of-end c = search needs
 sheet-of-requires : tie.Need-sheet-of-requires
 sheet-of-requires c κs = search needs
 
-sub-durations : tie.Need-sub-durations
-sub-durations c = search needs
+sub-heads-of : tie.Need-sub-heads-of
+sub-heads-of c = search needs
 
-part-durations-start : tie.Need-part-durations-start
-part-durations-start c = search needs
+part-heads-of-start : tie.Need-part-heads-of-start
+part-heads-of-start c = search needs
 
-part-durations-end : tie.Need-part-durations-end
-part-durations-end c = search needs
+part-heads-of-end : tie.Need-part-heads-of-end
+part-heads-of-end c = search needs
 
-durations-requires : tie.Need-durations-requires
-durations-requires c κs = search needs
+heads-of-requires : tie.Need-heads-of-requires
+heads-of-requires c κs = search needs
 
 day-line-requires : tie.Need-day-line-requires
 day-line-requires c κs = search needs
@@ -79,7 +78,7 @@ returns-2 c =
     let e = Stores.part-block s g i l a _ p refl in
     subst (SaysDay (reply.Line (c .day-line .result))) (sym (cond-true _ _ _ (via (c .before .before .before .before .before .before .before .is-settled .ensures) (not-false _ (c .before .before .before .before .before .before .if1 .left)))))
     (subst (Says (c .day-line .result))
-    (ap₂ dayLine (c .before .durations .ensures ∙ ap durationsOf e) (c .before .before .before .sheet-of .ensures ∙ ap (λ (x : Block). x .checked) e)) (c .day-line .ensures))
+    (ap₂ dayLine (c .before .heads-of .ensures ∙ ap (λ (x : Block). x .heads) e) (c .before .before .before .sheet-of .ensures ∙ ap (λ (x : Block). x .checked) e)) (c .day-line .ensures))
 
 pub give-day-spec : {M : Type 1} → statement M
 give-day-spec =
@@ -93,9 +92,9 @@ give-day-spec =
     part-sheet-of-start
     part-sheet-of-end
     sheet-of-requires
-    sub-durations
-    part-durations-start
-    part-durations-end
-    durations-requires
+    sub-heads-of
+    part-heads-of-start
+    part-heads-of-end
+    heads-of-requires
     day-line-requires
     returns-2)

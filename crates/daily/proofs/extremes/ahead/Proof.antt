@@ -9,4 +9,6 @@ ahead-spec =
     tie.close
     (tie.spec
     (λ c κs. search needs)
-    (λ c. rw (c .beyond .ensures)))
+    (λ c κs. search needs)
+    (λ c κs. search needs)
+    (λ c. rw (c .before .before .is-missing .ensures, c .before .is-missing2 .ensures, c .beyond .ensures)))

@@ -5,8 +5,6 @@ use mathlib.Core.Bool.{Bool, true, false, cond}
 use Prim.Native.Nat.{_-_, _≤_}
 use native.Mathlib.Omega.{arith}
 use borrow.Author.Needs.{needs}
-use borrow.Author.Tests.{eq-eqb, ne-eqb}
-use lib.Dec.{eqb}
 use Rattle.quality.specs.Cell.{missing}
 use Rattle.quality.specs.Coded.{cells}
 use Rattle.daily.specs.declared.Extreme.the-variants.{Absent, Slot}
@@ -24,12 +22,12 @@ abbrev μ-loop : tie.MeasureT-loop
 μ-loop t warmer best₀ k₀ best k = 8 - k
 
 -- the best slot after the loop, b saying whether it is missing
-told : (x : tie.After-at Inv-loop μ-loop) (b : Bool) → eqb (x .at .result .state) 0 ≡ b
-    → cond b Absent (Slot (x .before .before .loop .best)) ≡ slotOf (earliest (utmost (beyond (x .before .before .before .args .warmer)) (cells (x .before .before .before .args .t))) 8)
+told : (x : tie.After-is-missing Inv-loop μ-loop) (b : Bool) → x .is-missing .result ≡ b
+    → cond b Absent (Slot (x .before .before .before .loop .best)) ≡ slotOf (earliest (utmost (beyond (x .before .before .before .before .args .warmer)) (cells (x .before .before .before .before .args .t))) 8)
 told x b h =
-    let l = x .before .before in
+    let l = x .before .before .before in
     let e : l .loop .k ≡ 8 = omega arith in
-    ended (l .before .args .warmer) (cells (l .before .args .t)) (l .loop .best) (rw e at (l .loop .inv .1)) b (sym (ap missing (x .at .ensures)) ∙ h)
+    ended (l .before .args .warmer) (cells (l .before .args .t)) (l .loop .best) (rw e at (l .loop .inv .1)) b (sym (x .is-missing .ensures ∙ ap missing (x .before .at .ensures)) ∙ h)
 
 pub extreme-spec : {M : Type 1} → statement M
 extreme-spec =
@@ -43,5 +41,6 @@ extreme-spec =
     (λ c. search needs)
     (λ c. rw (c .better .ensures) (search needs, more _ _ (c .before .before .loop .inv .1)))
     (λ c κs. let w = c .before .loop .inv .1 .within in search needs)
-    (λ c. told (c .before .before) true (eq-eqb _ _ (c .if1 .taken)))
-    (λ c. told (c .before .before) false (ne-eqb _ _ (c .if1 .left))))
+    (λ c κs. search needs)
+    (λ c. told (c .before) true (c .if1 .taken))
+    (λ c. told (c .before) false (c .if1 .left)))

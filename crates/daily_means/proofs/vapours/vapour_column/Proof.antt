@@ -9,14 +9,20 @@ use Rattle.quality.proofs.Columns.{length-cells}
 use Rattle.quality.specs.Cell.{none, slot}
 use Rattle.quality.specs.Coded.{cells}
 use Rattle.daily.specs.Means.{vapourCell, vapourColumn}
+use Rattle.daily_means.proofs.Lookup.{at-slot}
 use Rattle.daily_means.proofs.vapours.vapour_column.Statement.{statement}
 use Rattle.daily_means.proofs.vapours.vapour_column.Tie as tie
 
 abbrev Inv-loop : tie.InvT-loop
-Inv-loop c table r₀ k₀ r k = Done (λ j. vapourCell (slot (cells c) j)) none 9 (cells r) k
+Inv-loop c pressures r₀ k₀ r k = Done (λ j. vapourCell (slot (cells c) j)) none 9 (cells r) k
 
 abbrev μ-loop : tie.MeasureT-loop
-μ-loop c table r₀ k₀ r k = 9 - k
+μ-loop c pressures r₀ k₀ r k = 9 - k
+
+vapour-cell-requires : tie.Need-vapour-cell-requires Inv-loop μ-loop
+vapour-cell-requires c κs =
+    let p = c .before .before .before .before in
+    at-slot (p .before .before .args .c) (p .pressures .result) (c .before .before .before .loop .k) _ _ (p .pressures .ensures) (c .before .at .ensures) (search needs) (search needs) (search needs)
 
 returns : tie.Need-returns Inv-loop μ-loop
 unfolding vapourColumn
@@ -30,11 +36,12 @@ vapour-column-spec =
     μ-loop
     (λ c κs. search needs)
     (λ c. Fill.none _ _ _ _ (length-cells _))
-    (λ c. search needs)
-    (λ c κs. search needs)
-    (λ c κs. search needs)
     (λ c κs. search needs)
     (λ c. search needs)
     (λ c. search needs)
-    (λ c. rw (c .put .ensures) (Fill.more _ (c .before .before .before .before .before .loop .inv) (search needs) (c .before .vapour-cell .ensures ∙ ap vapourCell (c .before .before .at .ensures))))
+    vapour-cell-requires
+    (λ c κs. search needs)
+    (λ c. search needs)
+    (λ c. search needs)
+    (λ c. rw (c .put .ensures) (Fill.more _ (c .before .before .before .before .before .loop .inv) (search needs) (c .before .vapour-cell .ensures ∙ ap vapourCell (c .before .before .before .at .ensures))))
     returns)

@@ -2,7 +2,6 @@
 -- Assumes nothing.
 use mathlib.Core.Path.{refl, sym}
 use mathlib.Core.Bool.{_&&_}
-use borrow.Author.Tests.{eq-eqb, ne-eqb}
 use lib.Dec.{eqb, leb}
 use Rattle.laws.proofs.Bools.{via, or-eq, and-eq, took, skip, cond-false}
 use Rattle.quality.specs.Steps.{windCell}
@@ -11,21 +10,25 @@ use Rattle.quality.proofs.internal.wind_cell.Tie as tie
 
 returns : tie.Need-returns
 unfolding windCell
-returns c = took _ _ _ (eq-eqb _ _ (c .if1 .taken))
+returns c = took _ _ _ (via (c .before .passed-over .ensures) (c .if1 .taken))
 
 returns-2 : tie.Need-returns-2
 unfolding windCell
 returns-2 c =
+    let p = c .before .before .before .before .before in
+    let dd = p .before .args .dd in
     rw (c .with-flag .ensures)
-    (skip _ _ _ _ (ne-eqb _ _ (c .before .before .before .before .if1 .left))
-    (took _ _ _ (via (or-eq (and-eq {r = eqb (c .before .before .before .before .before .before .args .dd) 0} refl (c .before .before .before .below .ensures)) (and-eq {r = leb 1 (c .before .before .before .before .before .before .args .dd) && leb (c .before .before .before .before .before .before .args .dd) 36} refl (c .before .before .is-zero .ensures))) (c .before .if2 .taken))))
+    (skip _ _ _ _ (via (p .passed-over .ensures) (c .before .before .before .before .if1 .left))
+    (took _ _ _ (via (or-eq (and-eq {r = eqb dd 0} refl (c .before .before .before .below .ensures)) (and-eq {r = leb 1 dd && leb dd 36} refl (c .before .before .is-zero .ensures))) (c .before .if2 .taken))))
 
 returns-3 : tie.Need-returns-3
 unfolding windCell
 returns-3 c =
-    skip _ _ _ _ (ne-eqb _ _ (c .before .before .before .if1 .left))
-    (sym (cond-false _ _ _ (via (or-eq (and-eq {r = eqb (c .before .before .before .before .before .args .dd) 0} refl (c .before .before .below .ensures)) (and-eq {r = leb 1 (c .before .before .before .before .before .args .dd) && leb (c .before .before .before .before .before .args .dd) 36} refl (c .before .is-zero .ensures))) (c .if2 .left))))
+    let p = c .before .before .before .before in
+    let dd = p .before .args .dd in
+    skip _ _ _ _ (via (p .passed-over .ensures) (c .before .before .before .if1 .left))
+    (sym (cond-false _ _ _ (via (or-eq (and-eq {r = eqb dd 0} refl (c .before .before .below .ensures)) (and-eq {r = leb 1 dd && leb dd 36} refl (c .before .is-zero .ensures))) (c .if2 .left))))
 
 pub wind-cell-spec : {M : Type 1} → statement M
 wind-cell-spec =
-    tie.close (tie.spec returns (λ c κs. tt) (λ c κs. tt) (λ c κs. tt) returns-2 returns-3)
+    tie.close (tie.spec (λ c κs. tt) returns (λ c κs. tt) (λ c κs. tt) (λ c κs. tt) returns-2 returns-3)

@@ -10,7 +10,8 @@ use Rattle.store_layout.specs.Updates.{withChecked}
 use Rattle.store_block.specs.declared.block.Area.the-variants.{Checked}
 use Rattle.store_block.specs.Areas.{withColumn}
 use Rattle.store_block.proofs.Filling.{Filling, begun, more, whole-list}
-use Rattle.store_block.proofs.Sheets.{nine-columns, map-at}
+use Rattle.store_block.proofs.Sheets.{nine-columns}
+use Rattle.laws.proofs.Maps.{map-at}
 use lib.ListN.{length-map}
 use borrow.Author.Needs.{needs}
 use Rattle.store_block.proofs.block.put_sheet.Statement.{statement}

@@ -18,7 +18,8 @@ use Rattle.store_block.specs.declared.block.Area.the-variants.{Raw}
 use Rattle.store_block.specs.Areas.{withSheet, withCell}
 use Rattle.store_block.proofs.BlockWrites.{head-put}
 use Rattle.store_block.proofs.Filling.{Filling, begun, more, whole}
-use Rattle.store_block.proofs.Sheets.{nine-columns, map-at}
+use Rattle.store_block.proofs.Sheets.{nine-columns}
+use Rattle.laws.proofs.Maps.{map-at}
 use Rattle.store_block.proofs.block.put_slot.Statement.{statement}
 use Rattle.store_block.proofs.block.put_slot.Tie as tie
 
