@@ -4,8 +4,7 @@ ghost use mathlib.Core.Bool.{_&&_};
 ghost use lib.Dec.{ltb};
 ghost use Rattle.quality.specs.Valid.{isCell};
 ghost use Rattle.store_layout.specs.Layout.{signed};
-ghost use Rattle.store_layout.specs.Sound.{isEntry};
-ghost use Rattle.store_layout.specs.Valid.{isHead};
+ghost use Rattle.store_layout.specs.Valid.{isEntry, isHead};
 use quality::head::SlotHead;
 
 pub fn is_head(h: SlotHead) -> bool

@@ -21,7 +21,7 @@ use Rattle.store_layout.specs.Valid.{ValidStation, ValidStore}
 use Rattle.store_layout.specs.Layout.{storeLength}
 use Rattle.store_layout.specs.Form.{Form}
 use Rattle.store_layout.specs.Opening.{canOpen, openableIn, openable, fresh}
-use Rattle.store_layout.proofs.Validity.{valid-empty}
+use Rattle.store_layout.proofs.Validity.{entry-whole, valid-empty}
 
 module _ (year month day : ℕ) (numbers rows : List ℕ) where
   -- what an accepted open was asked for
@@ -111,7 +111,10 @@ module _ (year month day : ℕ) (numbers rows : List ℕ) where
       each : Openable (storeLength (length numbers)) → (i : ℕ) → i < length numbers → ValidStation (stationAt (fresh year month day numbers rows .stations) i)
       each o i l =
           rw (fresh-station i l)
-          (record { least = o .least i l; most = o .most i l; row = o .row i l; settled = lit≤ tt; block = valid-empty 0 })
+          (record {
+            entry = entry-whole (record { least = o .least i l; most = o .most i l; row-most = o .row i l; settled-most = lit≤ tt });
+            block = valid-empty 0;
+          })
 
       ascending : Openable (storeLength (length numbers)) → (i : ℕ) → suc i < length numbers
           → stationAt (fresh year month day numbers rows .stations) i .number < stationAt (fresh year month day numbers rows .stations) (suc i) .number

@@ -12,14 +12,14 @@ use Prim.Native.Nat.{ℕ, suc, _-_, _<_}
 use native.Mathlib.Omega.{arith}
 use borrow.Author.Tests.{leb-true, le-leb, ltb-true, lt-ltb, eqb-true, eq-eqb}
 use Rattle.laws.specs.All.{all}
-use Rattle.laws.proofs.Bools.{both}
+use Rattle.laws.proofs.Bools.{both, and-true}
 use Rattle.laws.proofs.Tables.{all-at, all-from}
 use Rattle.calendar.specs.Dates.{isDate}
 use Rattle.store_layout.specs.Model.{Station, stationAt}
 use Rattle.store_layout.specs.Valid.{ValidStation, ValidStore}
 use Rattle.store_layout.specs.Layout.{word, long, countAt, yearAt, monthAt, dayAt, entryAt, blockAt, decodeStation, decode, encode}
 use Rattle.store_layout.specs.Framed.{Bytes, Framed}
-use Rattle.store_layout.specs.Sound.{isEntry, soundStation, soundOrder, soundHeader, sound}
+use Rattle.store_layout.specs.Sound.{soundStation, soundOrder, soundHeader, sound}
 use Rattle.store_layout.proofs.SoundBlocks.{block-valid, valid-block}
 use Rattle.store_layout.proofs.Stores.{stations-count, station-at, encode-decode}
 
@@ -71,24 +71,12 @@ module _ (s : List ℕ) where
 
   -- ---- a station
   station-valid : (n i : ℕ) → soundStation s n i ≡ true → ValidStation (decodeStation s n i)
-  unfolding soundStation isEntry decodeStation
-  station-valid n i e =
-      let d = both e in
-      let c = both (d .0) in
-      let b = both (c .0) in
-      let a = both (b .0) in
-      record {
-        least = leb-true _ _ (a .0);
-        most = leb-true _ _ (a .1);
-        row = leb-true _ _ (b .1);
-        settled = leb-true _ _ (c .1);
-        block = block-valid s (blockAt n i) _ (d .1);
-      }
+  unfolding soundStation decodeStation
+  station-valid n i e = let p = both e in record { entry = p .0; block = block-valid s (blockAt n i) _ (p .1) }
 
   valid-station : (n i : ℕ) → ValidStation (decodeStation s n i) → soundStation s n i ≡ true
-  unfolding soundStation isEntry decodeStation
-  valid-station n i v =
-      rw (le-leb _ _ (v .least), le-leb _ _ (v .most), le-leb _ _ (v .row), le-leb _ _ (v .settled)) (valid-block s (blockAt n i) _ (v .block))
+  unfolding soundStation decodeStation
+  valid-station n i v = and-true _ _ (v .entry) (valid-block s (blockAt n i) _ (v .block))
 
   -- its number
   pub number-at : (i : ℕ) → i < word s countAt → stationAt (decode s .stations) i .number ≡ long s (entryAt i)

@@ -26,7 +26,7 @@ use Rattle.store_layout.specs.Sound.{sound}
 use Rattle.store_layout.proofs.Numbers.{unsigned-below}
 use Rattle.store_layout.proofs.Bytes.{bytes-none, bytes-more, bytes-append, bytes-pieces, bytes-of-word, bytes-of-long}
 use Rattle.store_layout.proofs.Stores.{framed-encode, decode-encode}
-use Rattle.store_layout.proofs.Validity.{head-parts}
+use Rattle.store_layout.proofs.Validity.{head-parts, entry-parts}
 use Rattle.store_layout.proofs.Soundness.{valid-sound}
 
 -- a direction is 100 at most
@@ -69,8 +69,9 @@ bytes-of-block b v =
 pub bytes-of-entry : (t : Station) → ValidStation t → Bytes (encodeEntry t)
 unfolding encodeEntry
 bytes-of-entry t v =
-    bytes-append (bytes-of-long (t .number) (omega (arith, v .most)))
-    (bytes-append (bytes-of-word (t .row) (omega (arith, v .row))) (bytes-of-word (t .settled) (omega (arith, v .settled))))
+    let p = entry-parts (v .entry) in
+    bytes-append (bytes-of-long (t .number) (omega (arith, p .most)))
+    (bytes-append (bytes-of-word (t .row) (omega (arith, p .row-most))) (bytes-of-word (t .settled) (omega (arith, p .settled-most))))
 
 pub bytes-of-header : (m : Store) → ValidStore m → Bytes (encodeHeader m)
 unfolding encodeHeader

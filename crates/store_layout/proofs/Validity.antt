@@ -1,5 +1,5 @@
 -- What the calls do to a station keeps it valid.
---     head-parts, head-whole      what the test of a slot head asks
+--     head-parts, head-whole, entry-parts, entry-whole      what the tests of a slot head and of an entry ask
 --     valid-empty            an empty block
 --     valid-with-slot        a report filed in a slot
 --     valid-with-checked     the checked cells put
@@ -24,7 +24,7 @@ use Rattle.quality.specs.Valid.{RawCell, SheetWithin, ValidSheet}
 use Rattle.quality.proofs.Validity.{none-valid, column-valid, put-valid, sheet-valid}
 use Rattle.store_layout.specs.Model.{Block, Station, Store, unfiled, emptySheet, emptyBlock, emptyStation, headOf, stationAt}
 use Rattle.quality.specs.declared.head.SlotHead.{SlotHead}
-use Rattle.store_layout.specs.Valid.{isDirection, isHead, ValidHead, ValidBlock, ValidStation, ValidStore}
+use Rattle.store_layout.specs.Valid.{isDirection, isHead, isEntry, ValidHead, ValidBlock, ValidStation, ValidStore}
 use Rattle.store_layout.specs.Updates.{withSlot, withChecked, withBlock, withStation}
 use Rattle.store_layout.proofs.Models.{with-count, with-same, with-other}
 
@@ -46,6 +46,26 @@ head-parts h v =
 pub head-whole : (h : SlotHead) → HeadParts h → ValidHead h
 unfolding isHead
 head-whole h p = rw (le-leb _ _ (p .filed), le-leb _ _ (p .ir), le-leb _ _ (p .tr)) (p .dd)
+
+-- ---- an entry's test, taken apart and put together
+pub record EntryParts (number row settled : ℕ) : Type 0 where
+  pub least : 1 ≤ number
+  pub most : number ≤ 99999
+  pub row-most : row ≤ 1
+  pub settled-most : settled ≤ 1
+
+module _ {number row settled : ℕ} where
+  pub entry-parts : isEntry number row settled ≡ true → EntryParts number row settled
+  unfolding isEntry
+  entry-parts e =
+      let p = both e in
+      let q = both (p .0) in
+      let r = both (q .0) in
+      record { least = leb-true _ _ (r .0); most = leb-true _ _ (r .1); row-most = leb-true _ _ (q .1); settled-most = leb-true _ _ (p .1) }
+
+  pub entry-whole : EntryParts number row settled → isEntry number row settled ≡ true
+  unfolding isEntry
+  entry-whole p = rw (le-leb _ _ (p .least), le-leb _ _ (p .most), le-leb _ _ (p .row-most)) (le-leb _ _ (p .settled-most))
 
 -- ---- an empty block
 -- its heads and its cells
@@ -89,7 +109,9 @@ valid-with-checked settled sheet b v c = record { nine = v .nine; heads = v .hea
 -- ---- a station's block and settled mark replaced
 pub valid-with-block : (b : Block) (settled : ℕ) (t : Station) → ValidStation t → ValidBlock settled b → settled ≤ 1 → ValidStation (withBlock b settled t)
 unfolding withBlock
-valid-with-block b settled t v c l = record { least = v .least; most = v .most; row = v .row; settled = l; block = c }
+valid-with-block b settled t v c l =
+    let p = entry-parts (v .entry) in
+    record { entry = entry-whole (record { least = p .least; most = p .most; row-most = p .row-most; settled-most = l }); block = c }
 
 -- ---- a station of a store replaced by one of the same number
 module _ (i : ℕ) (t : Station) (m : Store) (same : t .number ≡ stationAt (m .stations) i .number) where

@@ -9,7 +9,7 @@ use Rattle.laws.specs.All.{all}
 use Rattle.calendar.specs.Dates.{isDate}
 use Rattle.quality.specs.Valid.{isCell}
 use Rattle.store_layout.specs.Layout.{word, long, countAt, listOffsetAt, blockOffsetAt, blockLengthAt, yearAt, monthAt, dayAt, zeroAt, headerLength, blockLength, entryAt, rowIn, settledIn, blockAt, storeLength, headAt, cellElement, cellSlot, rawAt, checkedAt, decodeHead, decodeCell}
-use Rattle.store_layout.specs.Valid.{isHead}
+use Rattle.store_layout.specs.Valid.{isHead, isEntry}
 
 -- the slot head at a position
 abbrev pub soundHead : List ℕ → ℕ → Bool
@@ -33,10 +33,6 @@ soundBlock settled s at =
     all (λ k. soundHead s (at + headAt k)) 9
     && all (λ j. soundRaw (cellElement j) s (at + rawAt (cellElement j) (cellSlot j))) 81
     && all (λ j. soundChecked (cellElement j) s (at + checkedAt (cellElement j) (cellSlot j))) 81
-
--- "number IIiii (32 bits, 1 to 99999), climate row (16 bits, 0 lowland, 1 hill), settled (16 bits, 0 or 1)"
-unfoldable pub isEntry : ℕ → ℕ → ℕ → Bool
-isEntry number row settled = leb 1 number && leb number 99999 && leb row 1 && leb settled 1
 
 -- the entry of the station at index i
 abbrev pub soundEntry : List ℕ → ℕ → Bool

@@ -28,11 +28,12 @@ pub record ValidBlock (settled : ℕ) (b : Block) : Type 0 where
   pub raw : RawSheet (b .raw)
   pub checked : ValidSheet (b .checked)
 
+-- "number IIiii (32 bits, 1 to 99999), climate row (16 bits, 0 lowland, 1 hill), settled (16 bits, 0 or 1)"
+unfoldable pub isEntry : ℕ → ℕ → ℕ → Bool
+isEntry number row settled = leb 1 number && leb number 99999 && leb row 1 && leb settled 1
+
 pub record ValidStation (s : Station) : Type 0 where
-  pub least : 1 ≤ s .number
-  pub most : s .number ≤ 99999
-  pub row : s .row ≤ 1
-  pub settled : s .settled ≤ 1
+  pub entry : isEntry (s .number) (s .row) (s .settled) ≡ true
   pub block : ValidBlock (s .settled) (s .block)
 
 -- "One store covers one day and 1 to 32 land stations"; "ascending by station, each once"

@@ -8,7 +8,8 @@ use borrow.Author.Tests.{not-true, not-false}
 use lib.Dec.{leb, ltb}
 use Rattle.laws.specs.All.{all}
 use Rattle.store_layout.specs.Layout.{word, long, entryAt, settledIn, blockAt}
-use Rattle.store_layout.specs.Sound.{isEntry, soundEntry, soundBlock, soundStation, soundOrder}
+use Rattle.store_layout.specs.Sound.{soundEntry, soundBlock, soundStation, soundOrder}
+use Rattle.store_layout.specs.Valid.{isEntry}
 use Rattle.store_numbers.proofs.Ascending.{inOrder, in-turn}
 
 -- a station is sound, and its number is above the one before

@@ -3,6 +3,7 @@
 use Rattle.rules.specs.Reaction.{dateOf}
 use Rattle.quality.specs.Valid.{ValidSheet}
 use Rattle.quality.proofs.Validity.{raw-sheet-valid}
+use Rattle.store_layout.proofs.Validity.{entry-parts}
 use Rattle.store_layout.specs.Updates.{withStation}
 use Rattle.store_layout.specs.Layout.{decode, encode, countAt, word}
 use Rattle.store_layout.specs.Model.{Block, Station, stationAt}
@@ -62,7 +63,7 @@ settle-block-requires c κs =
     let v = Stores.valid-station s g i l in
     let row = c .before .before .before .row-of .ensures in (
       Stores.part-length s g i l a _ p refl,
-      omega (arith, v .row),
+      omega (arith, entry-parts (v .entry) .row-most),
       subst (λ (x : Block). ValidSheet (x .raw)) (sym (Stores.part-block s g i l a _ p refl)) (raw-sheet-valid _ (v .block .raw)),
     )
 

@@ -1,7 +1,7 @@
 -- `store_fields::is_entry` meets its contract: its tests are the rule's.
 -- Assumes nothing.
 use borrow.Author.Needs.{needs}
-use Rattle.store_layout.specs.Sound.{isEntry}
+use Rattle.store_layout.specs.Valid.{isEntry}
 use Rattle.store_fields.proofs.is_entry.Statement.{statement}
 use Rattle.store_fields.proofs.is_entry.Tie as tie
 
