@@ -21,7 +21,7 @@ use Rattle.bulletin_text.specs.Heading.{headingIn}
 use Rattle.bulletin_text.specs.Rebuilt.{heading, rebuilt}
 use Rattle.bulletin_text.specs.declared.Heading.{Heading}
 use Rattle.bulletin_text.specs.declared.Heading.the-variants.{Faulty, Timed}
-use Rattle.bulletin.specs.Bulletin.{Counts, counted, tail, filing, filings, atFirst, Result, counts, unchanged, under, headed, resultIn}
+use Rattle.bulletin.specs.Bulletin.{Counts, counted, filing, filings, atFirst, Result, counts, unchanged, under, headed, resultIn}
 use Rattle.bulletin.specs.Forms.{SameBulletins}
 
 module _ (form : Form) (s text : List ℕ) where

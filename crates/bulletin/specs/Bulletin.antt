@@ -9,7 +9,7 @@ use lib.ListN.{length, drop}
 use Rattle.store_layout.specs.Form.{Form, ours}
 use Rattle.store_layout.specs.Sound.{sound}
 use Rattle.rules.specs.Calls.{isAccepted, file}
-use Rattle.rules.specs.Step.{Outcome, stepIn, step}
+use Rattle.rules.specs.Step.{stepIn, step}
 use Rattle.bulletin_text.specs.Pieces.{parted, none}
 use Rattle.bulletin_text.specs.Heading.{headingIn}
 use Rattle.bulletin_text.specs.Rebuilt.{heading, rebuilt}

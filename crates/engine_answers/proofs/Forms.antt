@@ -1,9 +1,9 @@
 -- An open in two byte forms: the model's test is one, and so is that of the length where the buffers are as long.
 --     same-opens
 -- Assumes nothing.
-use mathlib.Core.Path.{_≡_, refl, sym, _∙_, ap}
-use mathlib.Core.Bool.{Bool, true, false, false≢true}
-use mathlib.Core.List.{List, [], _∷_}
+use mathlib.Core.Path.{_≡_, refl, sym, _∙_}
+use mathlib.Core.Bool.{Bool, true, false}
+use mathlib.Core.List.{List, _∷_}
 use Prim.Native.Nat.{ℕ}
 use native.Mathlib.Omega.{arith}
 use borrow.Author.Tests.{eqb-true, eq-eqb}
@@ -15,7 +15,7 @@ use Rattle.store_layout.specs.Opening.{openableIn, fresh}
 use Rattle.store_layout.proofs.Forms.{ours-lawful, corresponding-encoded}
 use Rattle.store_layout.proofs.Opened.{can-open, valid-fresh}
 use Rattle.rules.specs.Calls.{refused, accepted}
-use Rattle.rules.specs.Step.{Outcome, unchanged}
+use Rattle.rules.specs.Step.{unchanged}
 use Rattle.rules.proofs.FormExamples.{padded, padded-lawful}
 use Rattle.engine_answers.specs.Replies.{openIn}
 use Rattle.engine_answers.specs.Forms.{AsLong, SameOpened, SameOpens}

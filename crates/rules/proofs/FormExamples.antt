@@ -3,24 +3,22 @@
 --     padded, padded-lawful
 --     answers-padded      the answers of the example's run
 -- Assumes nothing.
-use mathlib.Core.Path.{_≡_, refl, sym, _∙_, ap, ap₂}
-use mathlib.Core.Bool.{Bool, true, false, false≢true, _&&_}
+use mathlib.Core.Path.{_≡_, sym, _∙_, ap, ap₂}
+use mathlib.Core.Bool.{Bool, false, false≢true, _&&_}
 use mathlib.Core.List.{List, [], _∷_}
 use Prim.Native.Nat.{ℕ, suc}
 use native.Mathlib.Omega.{arith}
 use borrow.Author.Tests.{eqb-true}
 use lib.Dec.{eqb}
-use lib.ListN.{length, drop}
+use lib.ListN.{drop}
 use Rattle.laws.proofs.Bools.{and-left, and-right}
 use Rattle.store_layout.specs.Model.{Store}
 use Rattle.store_layout.specs.Valid.{ValidStore}
-use Rattle.store_layout.specs.Framed.{Bytes}
 use Rattle.store_layout.specs.Form.{Form, ours, SoundIn, LawfulForm, Corresponding}
 use Rattle.store_layout.specs.Opening.{fresh}
 use Rattle.store_layout.proofs.Bytes.{bytes-more}
 use Rattle.store_layout.proofs.Forms.{ours-lawful, corresponding-encoded}
 use Rattle.store_layout.proofs.Opened.{can-open, valid-fresh}
-use Rattle.rules.specs.Calls.{Answer}
 use Rattle.rules.specs.Step.{stepIn}
 use Rattle.rules.specs.Runs.{Logged, log, namingLog}
 use Rattle.rules.specs.Forms.{SameCalls}

@@ -5,14 +5,13 @@
 --     same-calls       the calls in two lawful forms
 -- Assumes nothing.
 use mathlib.Core.Path.{_≡_, refl, sym, _∙_, ap, ap₂, subst}
-use mathlib.Core.Bool.{Bool, true, false, false≢true}
+use mathlib.Core.Bool.{true, false, false≢true}
 use mathlib.Core.List.{List, [], _∷_}
 use Prim.Native.Nat.{ℕ}
 use Rattle.laws.proofs.Bools.{cond-true, cond-false}
 use Rattle.store_layout.specs.Model.{Store}
 use Rattle.store_layout.specs.Valid.{ValidStore}
 use Rattle.store_layout.specs.Form.{Form, SoundIn, LawfulForm, Corresponding, AnyTwoForms}
-use Rattle.store_layout.proofs.Forms.{corresponding-encoded}
 use Rattle.rules.specs.Calls.{Call, Answer, refused, ask}
 use Rattle.rules.specs.Reaction.{Reaction, stays, becomes, reaction}
 use Rattle.rules.specs.Step.{Outcome, unchanged, outcomeIn, stepIn}
@@ -31,28 +30,28 @@ module _ (f : Form) where
   unfolding stepIn
   step-sound c s e = cond-true _ _ _ e
 
-  -- the bytes of what a reaction leaves
-  pub record Holds (m : Store) (s : List ℕ) : Type 0 where
-    pub sound : SoundIn f s
-    pub same : f .decode s ≡ m
+  -- the store m is read of a sound buffer
+  record BytesOf (m : Store) (s : List ℕ) : Type 0 where
+    sound : SoundIn f s
+    same : f .decode s ≡ m
 
   answer-in : (r : Reaction) (s : List ℕ) → outcomeIn f r s .answer ≡ answered r
   answer-in (stays a) s = refl
   answer-in (becomes m) s = refl
 
   module _ (lawful : LawfulForm f) where
-    holds-left : (r : Reaction) (s : List ℕ) → SoundIn f s → ValidStore (leftOf r (f .decode s)) → Holds (leftOf r (f .decode s)) (outcomeIn f r s .store)
-    holds-left (stays a) s h v = record { sound = h; same = refl }
-    holds-left (becomes m) s h v = record { sound = lawful .written m v; same = lawful .same m v }
+    bytes-left : (r : Reaction) (s : List ℕ) → SoundIn f s → ValidStore (leftOf r (f .decode s)) → BytesOf (leftOf r (f .decode s)) (outcomeIn f r s .store)
+    bytes-left (stays a) s h v = record { sound = h; same = refl }
+    bytes-left (becomes m) s h v = record { sound = lawful .written m v; same = lawful .same m v }
 
     module _ (rules : AllLawful) (c : Call) (s : List ℕ) (h : SoundIn f s) where
       step-answer : stepIn f c s .answer ≡ answered (reaction (ask c) (f .decode s))
       step-answer = ap (λ (o : Outcome). o .answer) (step-sound c s (h .sound)) ∙ answer-in (reaction (ask c) (f .decode s)) s
 
-      step-left : Holds (leftOf (reaction (ask c) (f .decode s)) (f .decode s)) (stepIn f c s .store)
+      step-left : BytesOf (leftOf (reaction (ask c) (f .decode s)) (f .decode s)) (stepIn f c s .store)
       step-left =
-          subst (λ (o : Outcome). Holds (leftOf (reaction (ask c) (f .decode s)) (f .decode s)) (o .store)) (sym (step-sound c s (h .sound)))
-          (holds-left (reaction (ask c) (f .decode s)) s h (valid-left rules c (f .decode s) (lawful .valid s h)))
+          subst (λ (o : Outcome). BytesOf (leftOf (reaction (ask c) (f .decode s)) (f .decode s)) (o .store)) (sym (step-sound c s (h .sound)))
+          (bytes-left (reaction (ask c) (f .decode s)) s h (valid-left rules c (f .decode s) (lawful .valid s h)))
 
       pub sound-left : SoundIn f (stepIn f c s .store)
       sound-left = step-left .sound

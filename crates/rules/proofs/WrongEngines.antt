@@ -15,7 +15,7 @@ use lib.ListN.{length, getD}
 use Rattle.laws.specs.Table.{table}
 use Rattle.calendar.specs.Dates.{isDate, daysIn}
 use Rattle.store_layout.specs.Model.{Store, stationAt}
-use Rattle.store_layout.specs.Layout.{encode, decode, encodeEntry, entryLength, blockLength, storeLength}
+use Rattle.store_layout.specs.Layout.{encode, decode, encodeEntry, entryLength, blockLength}
 use Rattle.store_layout.specs.Form.{ours}
 use Rattle.store_layout.specs.Opening.{canOpen, openableIn, fresh}
 use Rattle.store_layout.specs.Updates.{withBlock, withStation}

@@ -32,7 +32,7 @@ stepIn form c s = cond (form .sound s) (outcomeIn form (reaction (ask c) (form .
 abbrev pub step : Call → List ℕ → Outcome
 step = stepIn ours
 
--- where the bytes s are known to be those of m: what is asked leaves, and what a request on the station at index i does
+-- where the bytes s are those of m: what is asked leaves, and what a request on the station at index i leaves
 abbrev pub asked : Ask → Store → List ℕ → Outcome
 asked q m s = outcomeIn ours (reaction q m) s
 

@@ -2,7 +2,7 @@
 --     ours-lawful
 --     corresponding-encoded
 -- Assumes nothing.
-use mathlib.Core.Path.{_≡_, sym, _∙_}
+use mathlib.Core.Path.{sym, _∙_}
 use Rattle.store_layout.specs.Model.{Store}
 use Rattle.store_layout.specs.Valid.{ValidStore}
 use Rattle.store_layout.specs.Form.{Form, ours, LawfulForm, Corresponding}

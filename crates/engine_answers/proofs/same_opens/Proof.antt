@@ -1,11 +1,8 @@
 -- `engine_answers::same_opens` meets its contract: what an open answers does not depend on the byte form, and what it leaves corresponds.
 -- Assumes nothing.
 use Rattle.engine_answers.proofs.Forms.{same-opens}
-use borrow.Author.Needs.{needs}
 use Rattle.engine_answers.proofs.same_opens.Statement.{statement}
 use Rattle.engine_answers.proofs.same_opens.Tie as tie
-use Rattle.engine_answers.proofs.same_opens.Reads as reads
-use Rattle.engine_answers.proofs.same_opens.Lts as lts
 
 returns : tie.Need-returns
 returns c = same-opens

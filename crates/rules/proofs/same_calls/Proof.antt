@@ -3,11 +3,8 @@
 use Rattle.rules.proofs.Forms.{same-calls}
 use Rattle.rules.proofs.Requests.{all-lawful}
 use Rattle.rules.proofs.Reports.{report-bounds}
-use borrow.Author.Needs.{needs}
 use Rattle.rules.proofs.same_calls.Statement.{statement}
 use Rattle.rules.proofs.same_calls.Tie as tie
-use Rattle.rules.proofs.same_calls.Reads as reads
-use Rattle.rules.proofs.same_calls.Lts as lts
 
 returns : tie.Need-returns
 returns c = same-calls (all-lawful report-bounds)
