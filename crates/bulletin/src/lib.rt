@@ -12,10 +12,10 @@ use bulletin_text::Heading;
 use bulletin_text::begin;
 use bulletin_text::end_of;
 use bulletin_text::is_blank;
-use bulletin_text::put;
 use bulletin_text::squeeze;
 use bulletin_text::start_of;
 use engine_answers::Reply;
+use text_writer::put;
 
 // The reports that were accepted, and those that were refused.
 pub struct Tally {
@@ -31,7 +31,7 @@ pub enum BulletinReply {
 
 // ---- the reports
 
-// A report filed in a sound store: whether it was accepted.
+// A report filed in a sound store: whether it was accepted. Of one beyond 512 bytes the buffer has the first 513, which are refused as well.
 fn file_report(store: &mut [u8], a: u8, b: u8, c: u8, d: u8, e: u8, piece: &[u8]) -> bool
     requires { ⌜ sound (now store) ≡ true ⌝ }
     ensures { λ r. ⌜ Filed (heading a b c d e) (groups (now (piece .entry))) (now (store .entry)) r (now (store .exit)) ⌝ }
@@ -39,9 +39,6 @@ fn file_report(store: &mut [u8], a: u8, b: u8, c: u8, d: u8, e: u8, piece: &[u8]
     let mut buf = begin(a, b, c, d, e);
     let n = squeeze(&mut buf, 10, piece);
     let m = put(&mut buf, n, b'=');
-    if 512 < m {
-        return false;
-    }
     match engine::file_in(store, &buf[0..m]) {
         Reply::Accepted => true,
         Reply::Refused(_) => false,

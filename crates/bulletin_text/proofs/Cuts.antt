@@ -2,7 +2,7 @@
 -- Assumes nothing.
 use mathlib.Core.Path.{_≡_, refl, sym, _∙_, ap, subst}
 use mathlib.Core.Bool.{Bool, true, false, cond}
-use mathlib.Core.List.{List, [], _∷_, _++_}
+use mathlib.Core.List.{List, [], _∷_, _++_, append-assoc, append-nil}
 use Prim.Native.Nat.{ℕ, zero, suc, _+_, _-_, _<_, _≤_}
 use native.Mathlib.Omega.{arith}
 use native.Mathlib.Numerals.{add-one}
@@ -13,7 +13,6 @@ use lib.ListN.{length, take, drop, getD, length-drop, drop-of-length-le}
 use lib.Seq.{getD-drop, drop-drop, drop-cons}
 use Rattle.synop_text.specs.Walk.{part}
 use Rattle.bulletin_text.specs.Pieces.{pieces, none}
-use Rattle.bulletin_text.proofs.Buffer.{assoc, right-none}
 use Rattle.synop_text.specs.Groups.{groups}
 use Rattle.bulletin_text.specs.Walk.{Reached}
 
@@ -56,12 +55,12 @@ module _ (s : List ℕ) (at : ℕ) (e : at ≡ 0) where
 -- past d characters that are no `=`
 pass : (d : ℕ) (t run : List ℕ) → d ≤ length t → ((k : ℕ) → k < d → getD t k 0 ≡ 61 → ⊥) → pieces run t ≡ pieces (run ++ take d t) (drop d t)
 unfolding pieces
-pass zero t run h n = ap (λ (r : List ℕ). pieces r t) (sym (right-none run))
+pass zero t run h n = ap (λ (r : List ℕ). pieces r t) (sym (append-nil run))
 pass (suc d) [] run h n = absurd (omega arith)
 pass (suc d) (b ∷ t) run h n =
     cond-false _ _ _ (ne-eqb b 61 (n 0 (omega arith)))
     ∙ pass d t (run ++ b ∷ []) (omega arith) (λ k l e. n (suc k) (omega arith) e)
-    ∙ ap (λ (r : List ℕ). pieces r (drop d t)) (assoc run (b ∷ []) (take d t))
+    ∙ ap (λ (r : List ℕ). pieces r (drop d t)) (append-assoc run (b ∷ []) (take d t))
 
 module _ {s : List ℕ} {i e : ℕ} (v : Reached s i e) where
   upto-end : pieces [] (drop i s) ≡ pieces (part s i e) (drop e s)

@@ -13,7 +13,9 @@ use Rattle.engine_answers.specs.declared.DayReply.{DayReply}
 use Rattle.engine_answers.specs.declared.DayReply.the-variants as ofDay
 use Rattle.rules.specs.Calls.{Answer, refused, accepted, aCell, aDay, day}
 use Rattle.rules.specs.Step.{step}
-use Rattle.dayline_print.specs.Printed.{stationText, dayText, Shows}
+use Rattle.text_writer.specs.Written.{Written}
+use Rattle.text_writer.proofs.Writing.{written-none}
+use Rattle.dayline_print.specs.Printed.{stationText, dayText}
 use Rattle.dayline_filing.specs.Printed.{settled, lineOf}
 
 said : (station : ℕ) (l : DayLine) (d : Line.DayLine) → Says l d → dayText station l ≡ lineOf station (aDay d)
@@ -24,21 +26,21 @@ module _ (station : ℕ) (s t : List ℕ) (e : t ≡ settled station s) (r : Day
   answer : SaysDay r (step (day station) (settled station s) .answer)
   answer = subst (λ (x : List ℕ). SaysDay r (step (day station) x .answer)) e v
 
-  pub line-shown : (l : DayLine) → r ≡ ofDay.Line l → (buf : List ℕ) (n : ℕ) → Shows buf n (dayText station l)
-      → Shows buf n (lineOf station (step (day station) (settled station s) .answer))
-  line-shown l q buf n w = go (step (day station) (settled station s) .answer) (subst (λ (x : DayReply). SaysDay x (step (day station) (settled station s) .answer)) q answer)
+  pub line-shown : (l : DayLine) → r ≡ ofDay.Line l → (old buf : List ℕ) (n : ℕ) → Written old buf n (dayText station l)
+      → Written old buf n (lineOf station (step (day station) (settled station s) .answer))
+  line-shown l q old buf n w = go (step (day station) (settled station s) .answer) (subst (λ (x : DayReply). SaysDay x (step (day station) (settled station s) .answer)) q answer)
     where
-      go : (a : Answer) → SaysDay (ofDay.Line l) a → Shows buf n (lineOf station a)
-      go (aDay d) h = subst (Shows buf n) (said station l d h) w
+      go : (a : Answer) → SaysDay (ofDay.Line l) a → Written old buf n (lineOf station a)
+      go (aDay d) h = subst (Written old buf n) (said station l d h) w
       go (refused m) h = absurd h
       go accepted h = absurd h
       go (aCell c) h = absurd h
 
-  pub line-none : (k : ℕ) → r ≡ ofDay.Refused k → (buf : List ℕ) → Shows buf 0 (lineOf station (step (day station) (settled station s) .answer))
+  pub line-none : (k : ℕ) → r ≡ ofDay.Refused k → (buf : List ℕ) → Written buf buf 0 (lineOf station (step (day station) (settled station s) .answer))
   line-none k q buf = go (step (day station) (settled station s) .answer) (subst (λ (x : DayReply). SaysDay x (step (day station) (settled station s) .answer)) q answer)
     where
-      go : (a : Answer) → SaysDay (ofDay.Refused k) a → Shows buf 0 (lineOf station a)
-      go (refused m) h = record { upto = omega arith; long = refl; same = refl }
+      go : (a : Answer) → SaysDay (ofDay.Refused k) a → Written buf buf 0 (lineOf station a)
+      go (refused m) h = written-none buf
       go (aDay d) h = absurd h
       go accepted h = absurd h
       go (aCell c) h = absurd h

@@ -3,7 +3,8 @@ use mathlib.Core.Path.{_≡_}
 use mathlib.Core.List.{List, []}
 use Prim.Native.Nat.{ℕ}
 use Rattle.daily.specs.Coded.{rainOf, slotOf}
-use Rattle.dayline_print.specs.Printed.{stationText, Shows}
+use Rattle.text_writer.specs.Written.{Written}
+use Rattle.dayline_print.specs.Printed.{stationText}
 use Rattle.rules.specs.Calls.{Answer, refused, accepted, aCell, aDay, settle, day}
 use Rattle.rules.specs.Step.{step}
 
@@ -17,7 +18,7 @@ lineOf station (refused n) = []
 lineOf station accepted = []
 lineOf station (aCell c) = []
 
--- the store and the first n bytes of the buffer after the station's line was made
-pub record Printed (station : ℕ) (s t buf : List ℕ) (n : ℕ) : Type 0 where
+-- the store and the buffer after the station's line was made
+pub record Printed (station : ℕ) (s t old buf : List ℕ) (n : ℕ) : Type 0 where
   pub left : t ≡ settled station s
-  pub shows : Shows buf n (lineOf station (step (day station) (settled station s) .answer))
+  pub shows : Written old buf n (lineOf station (step (day station) (settled station s) .answer))

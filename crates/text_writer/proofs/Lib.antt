@@ -1,0 +1,2 @@
+-- Laws of writing into a lent buffer.
+pub mod Writing

@@ -1,0 +1,2 @@
+-- Text written into a lent buffer.
+pub mod Written
