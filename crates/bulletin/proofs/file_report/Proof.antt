@@ -26,16 +26,24 @@ good : (c : tie.After-put) → Good (c .before .before .before .before .before .
 good c = record { sound = c .before .before .before .before .before .before .before .before .pre; bytes = record { each = λ k. omega (arith, c .before .before .before .before .before .before .before .slice-known .given k) } }
 
 part-file-in-end : tie.Need-part-file-in-end
-part-file-in-end c = ?
+part-file-in-end c = holds (c .before .before .before) .upto
 
 file-in-requires : tie.Need-file-in-requires
-file-in-requires c κs = ?
+file-in-requires c κs = good (c .before .before .before .before)
 
 returns : tie.Need-returns
-returns c = ?
+returns c =
+    let k = c .before .before .before .before .before .before .before .before .before in
+    filed _ _ _ (good k) _ (front (k .put .last .0) (k .put .result) _ (search needs) (holds k)) _ _ true
+    (sym (ap (λ (r : Reply). isAccepted (reply r)) (c .enum-told .given .1)))
+    (c .before .before .before .before .file-in .ensures)
 
 returns-2 : tie.Need-returns-2
-returns-2 c = ?
+returns-2 c =
+    let k = c .before .before .before .before .before .before .before .before .before in
+    filed _ _ _ (good k) _ (front (k .put .last .0) (k .put .result) _ (search needs) (holds k)) _ _ false
+    (sym (ap (λ (r : Reply). isAccepted (reply r)) (c .enum-told2 .given .1)))
+    (c .before .before .before .before .file-in .ensures)
 
 pub file-report-spec : {M : Type 1} → statement M
 file-report-spec =
