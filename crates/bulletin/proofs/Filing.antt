@@ -17,7 +17,7 @@ use Rattle.rules.proofs.Reports.{report-bounds, cut-report}
 use Rattle.engine_answers.specs.Good.{Good}
 use Rattle.engine_answers.specs.Replies.{Did}
 use Rattle.engine_answers.proofs.Outcomes.{step-sound}
-use Rattle.text_writer.specs.Written.{Holds}
+use Rattle.text_bytes.specs.Written.{Holds}
 use Rattle.bulletin_text.specs.Rebuilt.{rebuilt}
 use Rattle.bulletin.specs.Bulletin.{Filed}
 

@@ -10,12 +10,12 @@ ghost use Rattle.bulletin_text.specs.Rebuilt.{heading};
 ghost use Rattle.bulletin.specs.Bulletin.{Filed, filings, atFirst, Tallied, Ready, result, Gave};
 use bulletin_text::Heading;
 use bulletin_text::begin;
-use bulletin_text::end_of;
 use bulletin_text::is_blank;
 use bulletin_text::squeeze;
 use bulletin_text::start_of;
 use engine_answers::Reply;
-use text_writer::put;
+use text_bytes::find;
+use text_bytes::put;
 
 // The reports that were accepted, and those that were refused.
 pub struct Tally {
@@ -80,7 +80,7 @@ fn file_reports(
     ensures { λ r. ⌜ Tallied (filings (heading a b c d e) (parted (drop at (now (text .entry)))) (atFirst (now (store .entry)))) (r .accepted) (r .refused) (now (store .exit)) ⌝ }
 {
     let mut i = at;
-    let mut end = end_of(text, at);
+    let mut end = find(text, b'=', at);
     let mut accepted: u32 = 0;
     let mut refused: u32 = 0;
     while end < text.len() {
@@ -88,7 +88,7 @@ fn file_reports(
         accepted += one_if(ok);
         refused += one_unless(ok);
         i = end + 1;
-        end = end_of(text, i);
+        end = find(text, b'=', i);
     }
     refused += one_unless(is_blank(&text[i..end]));
     Tally { accepted, refused }
@@ -107,7 +107,7 @@ pub fn bulletin(store: &mut [u8], text: &[u8]) -> BulletinReply
     if !fits {
         return BulletinReply::Refused(1);
     }
-    let end = end_of(text, 0);
+    let end = find(text, b'=', 0);
     let start = start_of(&text[0..end]);
     let at = start.at;
     let heading = start.heading;

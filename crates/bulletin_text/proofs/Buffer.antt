@@ -7,8 +7,8 @@ use native.Mathlib.Omega.{arith}
 use lib.ListN.{length, drop}
 use Rattle.synop_text.specs.Groups.{groups}
 use Rattle.synop_text.specs.Walk.{part, Bounds}
-use Rattle.text_writer.specs.Written.{Adds}
-use Rattle.text_writer.proofs.Writing.{adds-none, adds-two, adds-as}
+use Rattle.text_bytes.specs.Written.{Adds}
+use Rattle.text_bytes.proofs.Writing.{adds-none, adds-two, adds-as}
 use Rattle.bulletin_text.specs.Rebuilt.{spaced}
 
 -- the groups before `at` are put: with those from there on they are all

@@ -1,21 +1,18 @@
-// The text of bulletins: the heading, the place where each report ends, and a report's text rebuilt with the heading before it.
+// The text of bulletins: the heading, and a report's text rebuilt with the heading before it.
 ghost use mathlib.Core.Path.{_≡_};
-ghost use Prim.Native.Nat.{_≤_};
-ghost use lib.ListN.{length};
 ghost use Rattle.synop_text.specs.Groups.{groups};
 ghost use Rattle.synop_text.specs.Kinds.{onFive};
 ghost use Rattle.bulletin_text.specs.declared.Heading.the-variants.{Faulty};
 ghost use Rattle.bulletin_text.specs.Heading.{timeOf, headingOf, Begins};
 ghost use Rattle.bulletin_text.specs.Pieces.{none};
 ghost use Rattle.bulletin_text.specs.Rebuilt.{spaced, heading};
-ghost use Rattle.bulletin_text.specs.Walk.{Reached};
-ghost use Rattle.text_writer.specs.Written.{Holds, Adds};
+ghost use Rattle.text_bytes.specs.Written.{Holds, Adds};
 use synop_order::Place;
 use synop_text::Cursor;
 use synop_text::Group;
 use synop_text::Step;
-use text_writer::put;
-use text_writer::put_all;
+use text_bytes::put;
+use text_bytes::put_all;
 
 // A heading: refused with a number, or the characters of YYGGiw.
 pub enum Heading {
@@ -98,21 +95,6 @@ pub fn start_of(piece: &[u8]) -> Start
 }
 
 // ---- the reports
-
-// Where the next `=` stands, or the text's end.
-pub fn end_of(s: &[u8], at: usize) -> usize
-    requires { ⌜ at ≤ length (now s) ⌝ }
-    ensures { λ r. ⌜ Reached (now (s .entry)) at r ⌝ }
-{
-    let mut i = at;
-    while i < s.len() {
-        if s[i] == b'=' {
-            return i;
-        }
-        i += 1;
-    }
-    i
-}
 
 // The groups of a piece, each after a space, behind the n bytes that the buffer holds.
 pub fn squeeze(buf: &mut [u8], n: usize, piece: &[u8]) -> usize

@@ -17,8 +17,8 @@ use Rattle.rules.specs.Calls.{Answer, refused, isAccepted, file, ask, askFile}
 use Rattle.rules.proofs.Reports.{cut-report}
 use Rattle.rules.specs.Step.{Outcome, unchanged, asked, step}
 use Rattle.engine_answers.specs.Replies.{Did}
-use Rattle.text_writer.specs.Written.{Holds, Adds}
-use Rattle.text_writer.proofs.Writing.{holds-none, holds-more, holds-self}
+use Rattle.text_bytes.specs.Written.{Holds, Adds}
+use Rattle.text_bytes.proofs.Writing.{holds-none, holds-more, holds-self}
 use Rattle.dayline_text.specs.Cuts.{isBlank}
 use Rattle.dayline_filing.specs.declared.Progress.{Progress}
 use Rattle.dayline_filing.specs.Reports.{reports, rest, allBlank, tail, inputReports}

@@ -13,8 +13,8 @@ use Rattle.engine_answers.specs.declared.DayReply.{DayReply}
 use Rattle.engine_answers.specs.declared.DayReply.the-variants as ofDay
 use Rattle.rules.specs.Calls.{Answer, refused, accepted, aCell, aDay, day}
 use Rattle.rules.specs.Step.{step}
-use Rattle.text_writer.specs.Written.{Written}
-use Rattle.text_writer.proofs.Writing.{written-none}
+use Rattle.text_bytes.specs.Written.{Written}
+use Rattle.text_bytes.proofs.Writing.{written-none}
 use Rattle.dayline_print.specs.Printed.{stationText, dayText}
 use Rattle.dayline_filing.specs.Printed.{settled, lineOf}
 

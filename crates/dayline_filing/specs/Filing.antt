@@ -4,7 +4,7 @@ use mathlib.Core.Bool.{Bool, true, false, cond}
 use mathlib.Core.List.{List, [], _∷_}
 use Prim.Native.Nat.{ℕ, _+_, _≤_, min}
 use lib.ListN.{length}
-use Rattle.text_writer.specs.Written.{Holds}
+use Rattle.text_bytes.specs.Written.{Holds}
 use Rattle.rules.specs.Calls.{isAccepted, file}
 use Rattle.rules.specs.Step.{step}
 use Rattle.dayline_filing.specs.declared.Progress.{Progress}

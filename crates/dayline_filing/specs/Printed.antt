@@ -3,7 +3,7 @@ use mathlib.Core.Path.{_≡_}
 use mathlib.Core.List.{List, []}
 use Prim.Native.Nat.{ℕ}
 use Rattle.daily.specs.Coded.{rainOf, slotOf}
-use Rattle.text_writer.specs.Written.{Written}
+use Rattle.text_bytes.specs.Written.{Written}
 use Rattle.dayline_print.specs.Printed.{stationText}
 use Rattle.rules.specs.Calls.{Answer, refused, accepted, aCell, aDay, settle, day}
 use Rattle.rules.specs.Step.{step}

@@ -3,7 +3,7 @@
 ghost use mathlib.Core.Path.{_≡_};
 ghost use mathlib.Core.List.{List, [], _∷_};
 ghost use Prim.Native.Nat.{ℕ, _≤_};
-ghost use Rattle.text_writer.specs.Written.{Holds};
+ghost use Rattle.text_bytes.specs.Written.{Holds};
 ghost use Rattle.dayline_filing.specs.Filing.{Begun, Room, Filed, Ended, Under, Feeds, more as Filing·more};
 ghost use Rattle.dayline_filing.specs.Opening.{OpenedBy};
 ghost use Rattle.dayline_filing.specs.Printed.{Printed};
@@ -12,7 +12,7 @@ use dayline_text::cut::is_blank;
 use dayline_text::first_line::Opening;
 use engine_answers::DayReply;
 use engine_answers::Reply;
-use text_writer::put;
+use text_bytes::put;
 
 // A store opened by what the first line said: whether it was.
 pub fn open(store: &mut [u8], o: Opening) -> bool

@@ -17,10 +17,10 @@ use Rattle.daily.specs.declared.Rain.{Rain}
 use Rattle.daily.specs.declared.Rain.the-variants as rains
 use Rattle.daily.specs.declared.Extreme.{Extreme}
 use Rattle.daily.specs.declared.Extreme.the-variants as extremes
-use Rattle.text_writer.specs.Written.{Written, Adds}
+use Rattle.text_bytes.specs.Written.{Written, Adds}
 use Rattle.dayline_print.specs.Numbers.{lastDigit, fiveDigits}
 use Rattle.dayline_print.specs.Printed.{digits, Enough, decimal, signed, rain, slot, field, stationText, dayText, refusedText}
-use Rattle.text_writer.proofs.Writing.{adds-as, adds-two, written-all}
+use Rattle.text_bytes.proofs.Writing.{adds-as, adds-two, written-all}
 
 -- ---- digits
 digits-one : (k n : ℕ) → n < 10 → lastDigit n ∷ [] ≡ digits k n

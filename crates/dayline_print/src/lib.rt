@@ -3,15 +3,15 @@
 ghost use mathlib.Core.Path.{_≡_};
 ghost use mathlib.Core.List.{[], _∷_};
 ghost use Prim.Native.Nat.{ℕ};
-ghost use Rattle.text_writer.specs.Written.{Written, Adds};
+ghost use Rattle.text_bytes.specs.Written.{Written, Adds};
 ghost use Rattle.dayline_print.specs.Numbers as numbers;
 ghost use Rattle.dayline_print.specs.Printed as printed;
 use daily::DayLine;
 use daily::Extreme;
 use daily::Rain;
 use laws::size;
-use text_writer::put;
-use text_writer::put_all;
+use text_bytes::put;
+use text_bytes::put_all;
 
 // The digit of n in the place of the ones.
 fn last_digit(n: u64) -> u8

@@ -12,12 +12,5 @@ pub fn is_blank(b: u8) -> bool
 pub fn find(s: &[u8], b: u8) -> usize
     ensures { λ r. ⌜ cuts.Found b (now (s .entry)) r ⌝ }
 {
-    let mut i = 0;
-    while i < s.len() {
-        if s[i] == b {
-            return i;
-        }
-        i += 1;
-    }
-    i
+    text_bytes::find(s, b, 0)
 }

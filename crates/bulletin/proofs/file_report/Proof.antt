@@ -9,8 +9,8 @@ use Rattle.engine_answers.specs.Replies.{reply}
 use Rattle.engine_answers.specs.declared.Reply.{Reply}
 use Rattle.bulletin_text.specs.Rebuilt.{heading, rebuilt}
 use Rattle.rules.specs.Calls.{isAccepted}
-use Rattle.text_writer.specs.Written.{Holds}
-use Rattle.text_writer.proofs.Writing.{holds-more}
+use Rattle.text_bytes.specs.Written.{Holds}
+use Rattle.text_bytes.proofs.Writing.{holds-more}
 use Rattle.bulletin.proofs.Filing.{front, filed}
 use borrow.Author.Needs.{needs}
 use Rattle.bulletin.proofs.file_report.Statement.{statement}

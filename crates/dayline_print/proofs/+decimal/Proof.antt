@@ -9,7 +9,7 @@ use borrow.Fn.PlainCycle.{Measures, is, falls, and}
 use Rattle.dayline_print.proofs.decimal.Reads as decimal
 use Rattle.dayline_print.proofs.decimal.Kinds as decimal-kinds
 use Rattle.dayline_print.proofs.+decimal.Lts-decimal as decimal-lts
-use Rattle.text_writer.proofs.put.Reads as put-reads
+use Rattle.text_bytes.proofs.put.Reads as put-reads
 use Rattle.dayline_print.proofs.last_digit.Reads as last-digit-reads
 use Rattle.dayline_print.proofs.+decimal.{statement}
 use Rattle.dayline_print.proofs.+decimal.Tie.{close}

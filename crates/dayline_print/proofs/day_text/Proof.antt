@@ -2,7 +2,7 @@
 -- Assumes nothing.
 use borrow.Author.Needs.{needs}
 use Rattle.dayline_print.specs.Printed.{stationText}
-use Rattle.text_writer.proofs.Writing.{adds-as, adds-two}
+use Rattle.text_bytes.proofs.Writing.{adds-as, adds-two}
 use Rattle.dayline_print.proofs.Printing.{day-short, shown}
 use Rattle.dayline_print.proofs.day_text.Statement.{statement}
 use Rattle.dayline_print.proofs.day_text.Tie as tie

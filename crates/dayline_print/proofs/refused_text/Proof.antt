@@ -2,7 +2,7 @@
 -- Assumes nothing.
 use borrow.Author.Needs.{needs}
 use Rattle.dayline_print.specs.Printed.{refusedText}
-use Rattle.text_writer.proofs.Writing.{adds-two}
+use Rattle.text_bytes.proofs.Writing.{adds-two}
 use Rattle.dayline_print.proofs.Printing.{refused-short, shown}
 use Rattle.dayline_print.proofs.refused_text.Statement.{statement}
 use Rattle.dayline_print.proofs.refused_text.Tie as tie

@@ -7,7 +7,7 @@ use native.Mathlib.Numerals.{add-one}
 use native.Mathlib.Omega.{arith}
 use lib.ListN.{length, take, drop, set, getD, length-set, length-append, length-take}
 use lib.Seq.{take-suc, take-suc-set, take-all, take-nil, take-append-le, length-take-le, drop-set-lt, drop-drop}
-use Rattle.text_writer.specs.Written.{Written, fitting, Holds, Adds}
+use Rattle.text_bytes.specs.Written.{Written, fitting, Holds, Adds}
 
 -- ---- one byte more
 module _ {old buf : List ℕ} {n : ℕ} (text : List ℕ) (b : ℕ) (v : Written old buf n (fitting buf text)) where

@@ -1,9 +1,9 @@
--- `text_writer::put` meets its contract.
+-- `text_bytes::put` meets its contract.
 -- Assumes nothing.
 use borrow.Author.Needs.{needs}
-use Rattle.text_writer.proofs.Writing.{byte-more, byte-full}
-use Rattle.text_writer.proofs.put.Statement.{statement}
-use Rattle.text_writer.proofs.put.Tie as tie
+use Rattle.text_bytes.proofs.Writing.{byte-more, byte-full}
+use Rattle.text_bytes.proofs.put.Statement.{statement}
+use Rattle.text_bytes.proofs.put.Tie as tie
 
 returns : tie.Need-returns
 returns c = λ old text v. byte-more text _ v (search needs)

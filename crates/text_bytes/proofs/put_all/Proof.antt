@@ -1,11 +1,11 @@
--- `text_writer::put_all` meets its contract. The invariant: the first i bytes of s are put.
+-- `text_bytes::put_all` meets its contract. The invariant: the first i bytes of s are put.
 -- Assumes nothing.
 use borrow.Author.Needs.{needs}
 use Prim.Native.Nat.{_-_}
 use lib.ListN.{length}
-use Rattle.text_writer.proofs.Writing.{Putting, putting-none, putting-more, put-whole}
-use Rattle.text_writer.proofs.put_all.Statement.{statement}
-use Rattle.text_writer.proofs.put_all.Tie as tie
+use Rattle.text_bytes.proofs.Writing.{Putting, putting-none, putting-more, put-whole}
+use Rattle.text_bytes.proofs.put_all.Statement.{statement}
+use Rattle.text_bytes.proofs.put_all.Tie as tie
 
 abbrev Inv-loop : tie.InvT-loop
 Inv-loop buf₀ n s m₀ i₀ buf m i = Putting buf₀ n s buf m i

@@ -1,2 +1,0 @@
--- Laws of writing into a lent buffer.
-pub mod Writing

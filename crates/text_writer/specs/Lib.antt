@@ -1,2 +1,0 @@
--- Text written into a lent buffer.
-pub mod Written
