@@ -15,7 +15,7 @@ use Rattle.rules.specs.Calls.{file}
 use Rattle.rules.specs.Step.{step}
 use Rattle.bulletin_text.specs.Rebuilt.{rebuilt}
 use Rattle.bulletin_text.specs.Pieces.{pieces, parted, none}
-use Rattle.bulletin_text.specs.Walk.{Reached}
+use Rattle.text_bytes.specs.Reached.{Reached}
 use Rattle.bulletin.specs.Bulletin.{Counts, tail, counted, filing, filings, atFirst, Filed, Tallied}
 use Rattle.bulletin_text.proofs.Cuts.{piece-here, piece-last}
 
@@ -40,24 +40,24 @@ filings-more head gs _ t (some x xs) = refl
 abbrev pub all : List ℕ → List ℕ → ℕ → Counts → Counts
 all head s i t = filings ours head (parted (drop i s)) t
 
-all-more : (head s : List ℕ) (i e : ℕ) (t : Counts) → Reached s i e → e < length s → all head s i t ≡ all head s (e + 1) (filing ours head (groups (part s i e)) t)
+all-more : (head s : List ℕ) (i e : ℕ) (t : Counts) → Reached s 61 i e → e < length s → all head s i t ≡ all head s (e + 1) (filing ours head (groups (part s i e)) t)
 all-more head s i e t v h =
     ap (λ (ps : List (List ℕ)). filings ours head (map (λ (p : List ℕ). groups p) ps) t) (piece-here v h)
     ∙ filings-more head (groups (part s i e)) (pieces [] (drop (e + 1) s)) t (some-piece (drop (e + 1) s) [])
 
-all-last : (head s : List ℕ) (i e : ℕ) (t : Counts) → Reached s i e → length s ≤ e → all head s i t ≡ tail (groups (part s i e)) t
+all-last : (head s : List ℕ) (i e : ℕ) (t : Counts) → Reached s 61 i e → length s ≤ e → all head s i t ≡ tail (groups (part s i e)) t
 unfolding filings
 all-last head s i e t v h = ap (λ (ps : List (List ℕ)). filings ours head (map (λ (p : List ℕ). groups p) ps) t) (piece-last v h)
 
 -- the loop: of the reports from `at` on those before i are filed, and the next ends at e
 pub record Filing (head s : List ℕ) (at : ℕ) (old : List ℕ) (i e a r : ℕ) (store : List ℕ) : Type 0 where
-  pub next : Reached s i e
+  pub next : Reached s 61 i e
   pub few : a + r ≤ i
   pub sound : sound store ≡ true
   pub long : length store ≡ length old
   pub rest : all head s i (record { store = store; accepted = a; refused = r }) ≡ all head s at (atFirst old)
 
-pub filing-none : (head s : List ℕ) (at : ℕ) (old : List ℕ) (e : ℕ) → sound old ≡ true → Reached s at e → Filing head s at old at e 0 0 old
+pub filing-none : (head s : List ℕ) (at : ℕ) (old : List ℕ) (e : ℕ) → sound old ≡ true → Reached s 61 at e → Filing head s at old at e 0 0 old
 filing-none head s at old e h v = record { next = v; few = omega arith; sound = h; long = refl; rest = refl }
 
 pub one-each : (b : Bool) → cond {A = ℕ} b 1 0 + cond {A = ℕ} b 0 1 ≡ 1
@@ -66,7 +66,7 @@ one-each false = refl
 
 pub filing-more : {head s : List ℕ} {at : ℕ} {old : List ℕ} {i e a r : ℕ} {store : List ℕ} (b : Bool) (x y f : ℕ) (new : List ℕ)
     → Filing head s at old i e a r store → e < length s → length new ≡ length store → Filed head (groups (part s i e)) store b new
-    → x ≡ cond b 1 0 → y ≡ cond b 0 1 → Reached s (e + 1) f → Filing head s at old (e + 1) f (a + x) (r + y) new
+    → x ≡ cond b 1 0 → y ≡ cond b 0 1 → Reached s 61 (e + 1) f → Filing head s at old (e + 1) f (a + x) (r + y) new
 unfolding filing
 filing-more {head} {s} {at} {old} {i} {e} {a} {r} {store} b x y f new v h l d p q w =
     record {

@@ -21,7 +21,7 @@ use Rattle.bulletin_text.specs.declared.Heading.the-variants.{Timed}
 use Rattle.bulletin_text.specs.Heading.{headingIn, Begins}
 use Rattle.bulletin_text.specs.Pieces.{pieces, parted}
 use Rattle.bulletin_text.specs.Rebuilt.{heading}
-use Rattle.bulletin_text.specs.Walk.{Reached}
+use Rattle.text_bytes.specs.Reached.{Reached}
 use Rattle.bulletin_text.proofs.Cuts.{piece-here, piece-last}
 use Rattle.bulletin.specs.declared.BulletinReply.{BulletinReply}
 use Rattle.bulletin.specs.declared.BulletinReply.the-variants as reply
@@ -47,11 +47,11 @@ drop-part (suc a) (suc n) (x ∷ s) h =
     let z : n - a ≡ suc n - suc a = omega arith in
     drop-part a n s (omega arith) ∙ ap (λ (k : ℕ). take k (drop a s)) z
 
-module _ {s : List ℕ} {e at : ℕ} {h : Heading} (v : Reached s 0 e) (b : Begins (part s 0 e) h at) where
+module _ {s : List ℕ} {e at : ℕ} {h : Heading} (v : Reached s 61 0 e) (b : Begins (part s 0 e) h at) where
   before : at ≤ e
   before = let u = b .upto in let w = v .upto in omega (arith, length-take-le (e - 0) s (omega (arith, w)))
 
-  later : Reached s at e
+  later : Reached s 61 at e
   later = record { from = before; upto = v .upto; none = λ k l g. v .none k l (omega arith); here = v .here }
 
   rest : drop at (part s 0 e) ≡ part s at e

@@ -12,12 +12,12 @@ ghost use Rattle.bulletin.specs.Forms.{SameBulletins};
 ghost use Rattle.bulletin.specs.Bulletin.{Filed, filings, atFirst, Tallied, Ready, result, Gave};
 use bulletin_text::Heading;
 use bulletin_text::begin;
-use bulletin_text::end_of;
 use bulletin_text::is_blank;
-use bulletin_text::put;
 use bulletin_text::squeeze;
 use bulletin_text::start_of;
 use engine_answers::Reply;
+use text_bytes::find;
+use text_bytes::put;
 
 // The reports that were accepted, and those that were refused.
 pub struct Tally {
@@ -33,7 +33,7 @@ pub enum BulletinReply {
 
 // ---- the reports
 
-// A report filed in a sound store: whether it was accepted.
+// A report filed in a sound store: whether it was accepted. Of one beyond 512 bytes the buffer has the first 513, which are refused as well.
 fn file_report(store: &mut [u8], a: u8, b: u8, c: u8, d: u8, e: u8, piece: &[u8]) -> bool
     requires { ⌜ sound (now store) ≡ true ⌝ }
     ensures { λ r. ⌜ Filed (heading a b c d e) (groups (now (piece .entry))) (now (store .entry)) r (now (store .exit)) ⌝ }
@@ -41,9 +41,6 @@ fn file_report(store: &mut [u8], a: u8, b: u8, c: u8, d: u8, e: u8, piece: &[u8]
     let mut buf = begin(a, b, c, d, e);
     let n = squeeze(&mut buf, 10, piece);
     let m = put(&mut buf, n, b'=');
-    if 512 < m {
-        return false;
-    }
     match engine_filing::file_in(store, &buf[0..m]) {
         Reply::Accepted => true,
         Reply::Refused(_) => false,
@@ -85,7 +82,7 @@ fn file_reports(
     ensures { λ r. ⌜ Tallied (filings ours (heading a b c d e) (parted (drop at (now (text .entry)))) (atFirst (now (store .entry)))) (r .accepted) (r .refused) (now (store .exit)) ⌝ }
 {
     let mut i = at;
-    let mut end = end_of(text, at);
+    let mut end = find(text, b'=', at);
     let mut accepted: u32 = 0;
     let mut refused: u32 = 0;
     while end < text.len() {
@@ -93,7 +90,7 @@ fn file_reports(
         accepted += one_if(ok);
         refused += one_unless(ok);
         i = end + 1;
-        end = end_of(text, i);
+        end = find(text, b'=', i);
     }
     refused += one_unless(is_blank(&text[i..end]));
     Tally { accepted, refused }
@@ -112,7 +109,7 @@ pub fn bulletin(store: &mut [u8], text: &[u8]) -> BulletinReply
     if !fits {
         return BulletinReply::Refused(1);
     }
-    let end = end_of(text, 0);
+    let end = find(text, b'=', 0);
     let start = start_of(&text[0..end]);
     let at = start.at;
     let heading = start.heading;

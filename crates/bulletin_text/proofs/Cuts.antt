@@ -2,44 +2,18 @@
 -- Assumes nothing.
 use mathlib.Core.Path.{_≡_, refl, sym, _∙_, ap, subst}
 use mathlib.Core.Bool.{Bool, true, false, cond}
-use mathlib.Core.List.{List, [], _∷_, _++_}
+use mathlib.Core.List.{List, [], _∷_, _++_, append-assoc, append-nil}
 use Prim.Native.Nat.{ℕ, zero, suc, _+_, _-_, _<_, _≤_}
 use native.Mathlib.Omega.{arith}
 use native.Mathlib.Numerals.{add-one}
-use borrow.Author.Count.{below-more}
 use borrow.Author.Tests.{eq-eqb, ne-eqb}
 use Rattle.laws.proofs.Bools.{cond-true, cond-false}
 use lib.ListN.{length, take, drop, getD, length-drop, drop-of-length-le}
 use lib.Seq.{getD-drop, drop-drop, drop-cons}
+use Rattle.text_bytes.specs.Reached.{Reached}
 use Rattle.synop_text.specs.Walk.{part}
 use Rattle.bulletin_text.specs.Pieces.{pieces, none}
-use Rattle.bulletin_text.proofs.Buffer.{assoc, right-none}
 use Rattle.synop_text.specs.Groups.{groups}
-use Rattle.bulletin_text.specs.Walk.{Reached}
-
--- no `=` from `at` to i
-pub record Passing (s : List ℕ) (at i : ℕ) : Type 0 where
-  pub from : at ≤ i
-  pub upto : i ≤ length s
-  pub none : (k : ℕ) → k < i → at ≤ k → getD s k 0 ≡ 61 → ⊥
-
-pub passing-none : (s : List ℕ) (at : ℕ) → at ≤ length s → Passing s at at
-passing-none s at h = record { from = omega arith; upto = h; none = λ k l g e. omega arith }
-
-module _ {s : List ℕ} {at i : ℕ} where
-  pub passing-more : Passing s at i → i < length s → (getD s i 0 ≡ 61 → ⊥) → Passing s at (i + 1)
-  passing-more v h n =
-      record {
-        from = let f = v .from in omega arith;
-        upto = omega arith;
-        none = below-more (λ k. at ≤ k → getD s k 0 ≡ 61 → ⊥) i (v .none) (λ g e. n e);
-      }
-
-  pub reached-here : Passing s at i → getD s i 0 ≡ 61 → Reached s at i
-  reached-here v e = record { from = v .from; upto = v .upto; none = v .none; here = λ h. e }
-
-  pub reached-end : Passing s at i → length s ≤ i → Reached s at i
-  reached-end v l = record { from = v .from; upto = v .upto; none = v .none; here = λ h. absurd (omega arith) }
 
 -- ---- a piece with no groups
 module _ (s : List ℕ) (at : ℕ) (e : at ≡ 0) where
@@ -56,14 +30,14 @@ module _ (s : List ℕ) (at : ℕ) (e : at ≡ 0) where
 -- past d characters that are no `=`
 pass : (d : ℕ) (t run : List ℕ) → d ≤ length t → ((k : ℕ) → k < d → getD t k 0 ≡ 61 → ⊥) → pieces run t ≡ pieces (run ++ take d t) (drop d t)
 unfolding pieces
-pass zero t run h n = ap (λ (r : List ℕ). pieces r t) (sym (right-none run))
+pass zero t run h n = ap (λ (r : List ℕ). pieces r t) (sym (append-nil run))
 pass (suc d) [] run h n = absurd (omega arith)
 pass (suc d) (b ∷ t) run h n =
     cond-false _ _ _ (ne-eqb b 61 (n 0 (omega arith)))
     ∙ pass d t (run ++ b ∷ []) (omega arith) (λ k l e. n (suc k) (omega arith) e)
-    ∙ ap (λ (r : List ℕ). pieces r (drop d t)) (assoc run (b ∷ []) (take d t))
+    ∙ ap (λ (r : List ℕ). pieces r (drop d t)) (append-assoc run (b ∷ []) (take d t))
 
-module _ {s : List ℕ} {i e : ℕ} (v : Reached s i e) where
+module _ {s : List ℕ} {i e : ℕ} (v : Reached s 61 i e) where
   upto-end : pieces [] (drop i s) ≡ pieces (part s i e) (drop e s)
   upto-end =
       pass (e - i) (drop i s) [] (let f = v .from in let u = v .upto in omega (arith, length-drop i s))

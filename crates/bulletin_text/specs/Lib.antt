@@ -2,4 +2,3 @@
 pub mod Pieces
 pub mod Heading
 pub mod Rebuilt
-pub mod Walk

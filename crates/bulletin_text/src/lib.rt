@@ -1,20 +1,18 @@
-// The text of bulletins: the heading, the place where each report ends, and a report's text rebuilt with the heading before it.
+// The text of bulletins: the heading, and a report's text rebuilt with the heading before it.
 ghost use mathlib.Core.Path.{_≡_};
-ghost use mathlib.Core.List.{List, [], _∷_, _++_};
-ghost use Prim.Native.Nat.{ℕ, _≤_};
-ghost use lib.ListN.{length};
 ghost use Rattle.synop_text.specs.Groups.{groups};
 ghost use Rattle.synop_text.specs.Kinds.{onFive};
-ghost use Rattle.synop_text.specs.Characters as characters;
 ghost use Rattle.bulletin_text.specs.declared.Heading.the-variants.{Faulty};
 ghost use Rattle.bulletin_text.specs.Heading.{timeOf, headingOf, Begins};
 ghost use Rattle.bulletin_text.specs.Pieces.{none};
 ghost use Rattle.bulletin_text.specs.Rebuilt.{spaced, heading};
-ghost use Rattle.bulletin_text.specs.Walk.{Reached, Holds, added};
+ghost use Rattle.text_bytes.specs.Written.{Holds, Adds};
 use synop_order::Place;
 use synop_text::Cursor;
 use synop_text::Group;
 use synop_text::Step;
+use text_bytes::put;
+use text_bytes::put_all;
 
 // A heading: refused with a number, or the characters of YYGGiw.
 pub enum Heading {
@@ -98,77 +96,27 @@ pub fn start_of(piece: &[u8]) -> Start
 
 // ---- the reports
 
-// Where the next `=` stands, or the text's end.
-pub fn end_of(s: &[u8], at: usize) -> usize
-    requires { ⌜ at ≤ length (now s) ⌝ }
-    ensures { λ r. ⌜ Reached (now (s .entry)) at r ⌝ }
-{
-    let mut i = at;
-    while i < s.len() {
-        if s[i] == b'=' {
-            return i;
-        }
-        i += 1;
-    }
-    i
-}
-
-// One byte more in a buffer of 512; 513 once there is no room.
-pub fn put(buf: &mut [u8], n: usize, b: u8) -> usize
-    requires { ⌜ length (now buf) ≡ 512 ⌝ }
-    ensures { λ r. ⌜ ((text : List ℕ) → Holds (now (buf .entry)) n text → Holds (now (buf .exit)) r (text ++ b ∷ [])) ⌝ }
-{
-    if 512 <= n {
-        return 513;
-    }
-    buf[n] = b;
-    n + 1
-}
-
-// A character that belongs to no group.
-fn parts(b: u8) -> bool
-    ensures { λ r. ⌜ r ≡ characters.parts b ⌝ }
-{
-    (b == b' ') | (b == b'\r') | (b == b'\n') | (b == b'=')
-}
-
-// One character of a report more: nothing for a blank, and a space before a group's first character.
-fn add(buf: &mut [u8], n: usize, apart: bool, b: u8) -> usize
-    requires { ⌜ length (now buf) ≡ 512 ⌝ }
-    ensures { λ r. ⌜ ((text : List ℕ) → Holds (now (buf .entry)) n text → Holds (now (buf .exit)) r (text ++ added apart b)) ⌝ }
-{
-    if parts(b) {
-        return n;
-    }
-    if apart {
-        let m = put(buf, n, b' ');
-        return put(buf, m, b);
-    }
-    put(buf, n, b)
-}
-
 // The groups of a piece, each after a space, behind the n bytes that the buffer holds.
-pub fn squeeze(buf: &mut [u8], start: usize, piece: &[u8]) -> usize
-    requires { ⌜ length (now buf) ≡ 512 ⌝ }
-    ensures { λ r. ⌜ ((text : List ℕ) → Holds (now (buf .entry)) start text → Holds (now (buf .exit)) r (text ++ spaced (groups (now (piece .entry))))) ⌝ }
+pub fn squeeze(buf: &mut [u8], n: usize, piece: &[u8]) -> usize
+    ensures { λ r. ⌜ Adds (now (buf .entry)) n (now (buf .exit)) r (spaced (groups (now (piece .entry)))) ⌝ }
 {
-    let mut n = start;
-    let mut apart = true;
-    let mut i = 0;
-    while i < piece.len() {
-        let b = piece[i];
-        n = add(buf, n, apart, b);
-        apart = parts(b);
-        i += 1;
+    let mut m = n;
+    let mut c = Cursor::new();
+    loop {
+        let Step::Group { start, end, next } = c.step(piece) else {
+            return m;
+        };
+        let k = put(buf, m, b' ');
+        m = put_all(buf, k, &piece[start..end]);
+        c = next;
     }
-    n
 }
 
-// A buffer with the heading in it.
-pub fn begin(a: u8, b: u8, c: u8, d: u8, e: u8) -> [u8; 512]
+// A buffer with the heading in it. It has one byte more than the longest report that is not refused for its length.
+pub fn begin(a: u8, b: u8, c: u8, d: u8, e: u8) -> [u8; 513]
     ensures { λ r. ⌜ Holds r 10 (heading a b c d e) ⌝ }
 {
-    let mut buf = [0u8; 512];
+    let mut buf = [0u8; 513];
     buf[0] = b'A';
     buf[1] = b'A';
     buf[2] = b'X';

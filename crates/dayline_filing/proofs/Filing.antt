@@ -5,44 +5,34 @@ use mathlib.Core.Bool.{Bool, true, false, _&&_, cond}
 use mathlib.Core.List.{List, [], _∷_, _++_}
 use mathlib.Core.Logic.{_⊎_, ⊎-elim}
 use Prim.Native.Nat.{ℕ, _+_, _<_, _≤_}
-use native.Mathlib.Decide.{decLt}
 use native.Mathlib.Numerals.{add-one}
 use native.Mathlib.Omega.{arith}
 use lib.ListN.{length, take, getD}
-use lib.Seq.{take-all, take-suc, take-nil, length-take-le}
+use lib.Seq.{take-all, take-suc, length-take-le}
 use Rattle.laws.proofs.Bools.{and-eq}
 use Rattle.store_layout.specs.Layout.{decode}
 use Rattle.store_layout.specs.Sound.{sound}
 use Rattle.synop.specs.Report.{Report}
 use Rattle.rules.specs.Calls.{Answer, refused, isAccepted, file, ask, askFile}
-use Rattle.rules.proofs.Reports.{long-report}
+use Rattle.rules.proofs.Reports.{cut-report}
 use Rattle.rules.specs.Step.{Outcome, unchanged, stepIn, asked, step}
 use Rattle.engine_answers.specs.Replies.{Did}
-use Rattle.dayline_text.specs.Cuts.{Kept, Adds, isBlank}
+use Rattle.text_bytes.specs.Written.{Holds, Adds}
+use Rattle.text_bytes.proofs.Writing.{holds-none, holds-more, holds-self}
+use Rattle.dayline_text.specs.Cuts.{isBlank}
 use Rattle.dayline_filing.specs.declared.Progress.{Progress}
 use Rattle.dayline_filing.specs.Reports.{reports, rest, allBlank, tail, inputReports}
 use Rattle.dayline_filing.specs.Filing.{Tally, more, filing, filings, Filed, Ended, Room, Under, Fed, Feeds, Begun}
 use Rattle.dayline_filing.proofs.Cutting.{reports-none, rest-none, reports-end, rest-end, reports-on, rest-on, rest-two, reports-two, blank-none, blank-more}
 
--- ---- a report beyond 512 bytes is refused whatever it holds
-step-long : (s t u : List ℕ) → 512 < length t → 512 < length u → step (file t) s ≡ step (file u) s
+-- ---- what is kept of a report does for the whole
+step-cut : (s t : List ℕ) → step (file (take 513 t)) s ≡ step (file t) s
 unfolding stepIn
-step-long s t u h k =
-    ap (λ (r : Report). cond (sound s) (asked (askFile r) (decode s) s) (unchanged (refused 9) s)) (long-report t h ∙ sym (long-report u k))
+step-cut s t = ap (λ (r : Report). cond (sound s) (asked (askFile r) (decode s) s) (unchanged (refused 9) s)) (cut-report t)
 
--- so what is kept of a report does for the whole
-module _ (s kept run : List ℕ) (held : ℕ) (room : Room kept held) (v : Kept kept held run) where
-  first : take held kept ≡ take 513 run
-  first = v .same ∙ ap (λ (k : ℕ). take k run) (room .size)
-
+module _ (s kept run : List ℕ) (held : ℕ) (room : Room kept held) (v : Holds kept held run) where
   step-kept : step (file (take held kept)) s ≡ step (file run) s
-  step-kept = go (decLt 513 (length run))
-    where
-      go : Dec (513 < length run) → step (file (take held kept)) s ≡ step (file run) s
-      go (yes h) =
-          ap (λ (t : List ℕ). step (file t) s) first
-          ∙ step-long s (take 513 run) run (omega (arith, length-take-le 513 run (omega arith))) (omega arith)
-      go (no h) = ap (λ (t : List ℕ). step (file t) s) (first ∙ take-all 513 run (omega arith))
+  step-kept = ap (λ (t : List ℕ). step (file t) s) (v .same ∙ ap (λ (k : ℕ). take k run) (room .size)) ∙ step-cut s run
 
   pub filed : (n : ℕ) (a : Answer) (t : List ℕ) (m : ℕ) → Did (step (file (take held kept)) s) a t → m ≡ cond (isAccepted a) n (more n) → Filed run s n t m
   unfolding filing
@@ -65,42 +55,34 @@ filings-two [] qs t = refl
 filings-two (r ∷ rs) qs t = filings-two rs qs (filing r t)
 
 -- ---- what is kept
-kept-none : (kept : List ℕ) → Kept kept 0 []
-kept-none kept = record { upto = omega arith; same = sym (take-nil (length kept)) }
-
--- what is held is kept of itself
-kept-self : (kept : List ℕ) (held : ℕ) → held ≤ length kept → Kept kept held (take held kept)
-kept-self kept held h =
-    record { upto = h; same = sym (take-all (length kept) (take held kept) (omega (arith, length-take-le held kept h))) }
-
 pub room-count : {kept : List ℕ} {held : ℕ} → Room kept held → held ≡ length (take held kept)
 room-count {kept} {held} r = sym (length-take-le held kept (omega (arith, r .size, r .upto)))
 
 -- one byte more leaves room
 pub room-more : {kept : List ℕ} {held : ℕ} (new : List ℕ) (n b : ℕ) → Room kept held → length new ≡ length kept → Adds kept held new n (b ∷ []) → Room new n
 room-more {kept} {held} new n b r l f =
-    record { size = size; upto = omega (arith, f (take held kept) (kept-self kept held (omega (arith, r .size, r .upto))) .upto) }
+    record { size = size; upto = omega (arith, f kept (take held kept) (holds-self kept held (omega (arith, r .size, r .upto))) .upto) }
   where
     size : length new ≡ 513
     size = l ∙ r .size
 
 -- ---- the start
 pub begun : Begun (record { held = 0; blank = true; refused = 0 })
-begun = record { held = refl; under = λ kept. record { keeps = kept-none kept; blank = sym blank-none }; none = refl }
+begun = record { held = refl; under = λ kept. record { keeps = holds-none kept; blank = sym blank-none }; none = refl }
 
 -- ---- one byte
 module _ {kept : List ℕ} {p : Progress} {store : List ℕ} (b : ℕ) (new : List ℕ) (n : ℕ)
     (r : Room kept (p .held)) (l : length new ≡ length kept) (f : Adds kept (p .held) new n (b ∷ [])) where
   -- the report is whole
-  pub byte-end : b ≡ 61 → (t : List ℕ) (m : ℕ) → ((run : List ℕ) → Kept new n run → Filed run store (p .refused) t m)
+  pub byte-end : b ≡ 61 → (t : List ℕ) (m : ℕ) → ((run : List ℕ) → Holds new n run → Filed run store (p .refused) t m)
       → Feeds (b ∷ []) kept p store new (record { held = 0; blank = true; refused = m }) t
   byte-end e t m g =
       record {
         room = record { size = l ∙ r .size; upto = omega arith };
         fed = λ run u.
             record {
-              under = rw (rest-end run b e) (record { keeps = kept-none new; blank = sym blank-none });
-              tally = rw (reports-end run b e) (g (run ++ b ∷ []) (f run (u .keeps)) ∙ filings-one (run ++ b ∷ []) _);
+              under = rw (rest-end run b e) (record { keeps = holds-none new; blank = sym blank-none });
+              tally = rw (reports-end run b e) (g (run ++ b ∷ []) (holds-more run (b ∷ []) f (u .keeps)) ∙ filings-one (run ++ b ∷ []) _);
             };
       }
 
@@ -112,7 +94,7 @@ module _ {kept : List ℕ} {p : Progress} {store : List ℕ} (b : ℕ) (new : Li
         room = room-more new n b r l f;
         fed = λ run u.
             record {
-              under = rw (rest-on run b e) (record { keeps = f run (u .keeps); blank = and-eq (u .blank) q ∙ blank-more run b });
+              under = rw (rest-on run b e) (record { keeps = holds-more run (b ∷ []) f (u .keeps); blank = and-eq (u .blank) q ∙ blank-more run b });
               tally = rw (reports-on run b e) (filings-none _);
             };
       }

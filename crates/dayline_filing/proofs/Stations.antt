@@ -14,7 +14,9 @@ use Rattle.engine_answers.specs.declared.DayReply.the-variants as ofDay
 use Rattle.rules.specs.Calls.{refused, aDay, day}
 use Rattle.rules.specs.Step.{step}
 use Rattle.rules.proofs.Answers.{is-refused, IsDay, is-day}
-use Rattle.dayline_print.specs.Printed.{stationText, dayText, Shows}
+use Rattle.text_bytes.specs.Written.{Written}
+use Rattle.text_bytes.proofs.Writing.{written-none}
+use Rattle.dayline_print.specs.Printed.{stationText, dayText}
 use Rattle.dayline_filing.specs.Printed.{settled, lineOf}
 
 said : (station : ℕ) (l : DayLine) (d : Line.DayLine) → Says l d → dayText station l ≡ lineOf station (aDay d)
@@ -25,15 +27,15 @@ module _ (station : ℕ) (s t : List ℕ) (e : t ≡ settled station s) (r : Day
   answer : SaysDay r (step (day station) (settled station s) .answer)
   answer = subst (λ (x : List ℕ). SaysDay r (step (day station) x .answer)) e v
 
-  pub line-shown : (l : DayLine) → r ≡ ofDay.Line l → (buf : List ℕ) (n : ℕ) → Shows buf n (dayText station l)
-      → Shows buf n (lineOf station (step (day station) (settled station s) .answer))
-  line-shown l q buf n w = rw (i .answer) (subst (Shows buf n) (said station l (i .line) (i .holds)) w)
+  pub line-shown : (l : DayLine) → r ≡ ofDay.Line l → (old buf : List ℕ) (n : ℕ) → Written old buf n (dayText station l)
+      → Written old buf n (lineOf station (step (day station) (settled station s) .answer))
+  line-shown l q old buf n w = rw (i .answer) (subst (Written old buf n) (said station l (i .line) (i .holds)) w)
     where
       i : IsDay (Says l) (step (day station) (settled station s) .answer)
       i = is-day (Says l) _ (subst (λ (x : DayReply). SaysDay x (step (day station) (settled station s) .answer)) q answer)
 
-  pub line-none : (k : ℕ) → r ≡ ofDay.Refused k → (buf : List ℕ) → Shows buf 0 (lineOf station (step (day station) (settled station s) .answer))
-  line-none k q buf = rw i (record { upto = omega arith; long = refl; same = refl })
+  pub line-none : (k : ℕ) → r ≡ ofDay.Refused k → (buf : List ℕ) → Written buf buf 0 (lineOf station (step (day station) (settled station s) .answer))
+  line-none k q buf = rw i (written-none buf)
     where
       i : step (day station) (settled station s) .answer ≡ refused k
       i = is-refused k _ (subst (λ (x : DayReply). SaysDay x (step (day station) (settled station s) .answer)) q answer)

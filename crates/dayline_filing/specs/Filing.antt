@@ -4,7 +4,7 @@ use mathlib.Core.Bool.{Bool, true, false, cond}
 use mathlib.Core.List.{List, [], _∷_}
 use Prim.Native.Nat.{ℕ, _+_, _≤_, min}
 use lib.ListN.{length}
-use Rattle.dayline_text.specs.Cuts.{Kept}
+use Rattle.text_bytes.specs.Written.{Holds}
 use Rattle.rules.specs.Calls.{isAccepted, file}
 use Rattle.rules.specs.Step.{step}
 use Rattle.dayline_filing.specs.declared.Progress.{Progress}
@@ -44,7 +44,7 @@ pub record Room (kept : List ℕ) (held : ℕ) : Type 0 where
 
 -- what the code has of a report of which `run` is read: its first 513 bytes, and whether all of it is blank
 pub record Under (run kept : List ℕ) (p : Progress) : Type 0 where
-  pub keeps : Kept kept (p .held) run
+  pub keeps : Holds kept (p .held) run
   pub blank : p .blank ≡ allBlank run
 
 -- the bytes s are read after `run`: the code has what is read of the report under way, and the whole ones are filed

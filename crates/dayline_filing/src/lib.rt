@@ -3,16 +3,16 @@
 ghost use mathlib.Core.Path.{_≡_};
 ghost use mathlib.Core.List.{List, [], _∷_};
 ghost use Prim.Native.Nat.{ℕ, _≤_};
-ghost use Rattle.dayline_text.specs.Cuts.{Kept};
+ghost use Rattle.text_bytes.specs.Written.{Holds};
 ghost use Rattle.dayline_filing.specs.Filing.{Begun, Room, Filed, Ended, Under, Feeds, more as Filing·more};
 ghost use Rattle.dayline_filing.specs.Opening.{OpenedBy};
 ghost use Rattle.dayline_filing.specs.Printed.{Printed};
 use dayline_print::day_text;
 use dayline_text::cut::is_blank;
-use dayline_text::cut::put;
 use dayline_text::first_line::Opening;
 use engine_answers::DayReply;
 use engine_answers::Reply;
+use text_bytes::put;
 
 // A store opened by what the first line said: whether it was.
 pub fn open(store: &mut [u8], o: Opening) -> bool
@@ -62,7 +62,7 @@ fn more(refused: u64) -> u64
 // The report that is kept, filed: how many are refused then.
 fn finish(store: &mut [u8], kept: &[u8], held: usize, refused: u64) -> u64
     requires { ⌜ Room (now kept) held ⌝ }
-    ensures { λ r. ⌜ ((run : List ℕ) → Kept (now (kept .entry)) held run → Filed run (now (store .entry)) refused (now (store .exit)) r) ⌝ }
+    ensures { λ r. ⌜ ((run : List ℕ) → Holds (now (kept .entry)) held run → Filed run (now (store .entry)) refused (now (store .exit)) r) ⌝ }
 {
     match engine::file(store, &kept[..held]) {
         Reply::Accepted => refused,
@@ -117,7 +117,7 @@ pub fn tail(store: &mut [u8], kept: &[u8], p: Progress) -> u64
 
 // A station is settled, and its line put into a buffer: how long it is.
 pub fn station_text(store: &mut [u8], station: u32, out: &mut [u8; 160]) -> usize
-    ensures { λ r. ⌜ Printed station (now (store .entry)) (now (store .exit)) (now (out .exit)) r ⌝ }
+    ensures { λ r. ⌜ Printed station (now (store .entry)) (now (store .exit)) (now (out .entry)) (now (out .exit)) r ⌝ }
 {
     engine::settle(store, station);
     match engine::day(store, station) {

@@ -10,7 +10,6 @@ use borrow.Author.Tests.{lt-ltb, le-ltb, ltb-true}
 use lib.Dec.{ltb}
 use lib.IntN.{ℤ, pos, negsuc, natAbs}
 use lib.ListN.{length, length-append}
-use lib.Seq.{take-all, take-nil, length-take-le}
 use lib.Signed.{ltZ}
 use Rattle.laws.proofs.Bools.{cond-keeps}
 use Rattle.daily.specs.declared.DayLine.{DayLine}
@@ -18,10 +17,10 @@ use Rattle.daily.specs.declared.Rain.{Rain}
 use Rattle.daily.specs.declared.Rain.the-variants as rains
 use Rattle.daily.specs.declared.Extreme.{Extreme}
 use Rattle.daily.specs.declared.Extreme.the-variants as extremes
-use Rattle.dayline_text.specs.Cuts.{Adds}
+use Rattle.text_bytes.specs.Written.{Written, Adds}
 use Rattle.dayline_print.specs.Numbers.{lastDigit, fiveDigits}
-use Rattle.dayline_print.specs.Printed.{digits, Enough, decimal, signed, rain, slot, field, stationText, dayText, refusedText, Shows}
-use Rattle.dayline_text.proofs.Keeping.{adds-as, adds-two}
+use Rattle.dayline_print.specs.Printed.{digits, Enough, decimal, signed, rain, slot, field, stationText, dayText, refusedText}
+use Rattle.text_bytes.proofs.Writing.{adds-as, adds-two, written-all}
 
 -- ---- digits
 digits-one : (k n : ℕ) → n < 10 → lastDigit n ∷ [] ≡ digits k n
@@ -106,7 +105,5 @@ unfolding refusedText
 refused-short n = simp length-append (omega (arith, digits-short 19 n))
 
 -- ---- the whole text, where there is room for it
-pub shown : {old : List ℕ} (new : List ℕ) (n : ℕ) (x : List ℕ) → Adds old 0 new n x → length new ≡ 160 → length x ≤ 160 → Shows new n x
-shown {old} new n x f l h =
-    let v = f [] (record { upto = omega arith; same = sym (take-nil (length old)) }) in
-    record { upto = v .upto; long = sym (length-take-le n new (v .upto)); same = v .same ∙ take-all (length new) x (omega arith) }
+pub shown : {buf : List ℕ} (new : List ℕ) (n : ℕ) (text : List ℕ) → Adds buf 0 new n text → length new ≡ 160 → length text ≤ 160 → Written buf new n text
+shown new n text f l h = written-all text f (omega arith)

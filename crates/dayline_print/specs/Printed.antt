@@ -1,12 +1,10 @@
 -- What `dayline` prints: "per station: number (five digits), rain, warmest, coldest, the four counts (`-` absent); last, the refused
 -- reports". Assumes nothing.
-use Prim.Native.Nat.{ℕ, zero, suc, _/_, _<_, _≤_}
+use Prim.Native.Nat.{ℕ, zero, suc, _/_, _<_}
 use mathlib.Core.Bool.{cond}
 use mathlib.Core.List.{List, [], _∷_, _++_}
-use mathlib.Core.Path.{_≡_}
 use lib.Dec.{ltb}
 use lib.IntN.{ℤ, pos, negsuc}
-use lib.ListN.{length, take}
 use Rattle.daily.specs.declared.DayLine.{DayLine}
 use Rattle.daily.specs.declared.Rain.{Rain}
 use Rattle.daily.specs.declared.Rain.the-variants as rains
@@ -63,9 +61,3 @@ dayText station d = stationText station (d .rain) (d .warmest) (d .coldest) (d .
 -- the last line, as `refused 0`
 unfoldable pub refusedText : ℕ → List ℕ
 refusedText n = 114 ∷ 101 ∷ 102 ∷ 117 ∷ 115 ∷ 101 ∷ 100 ∷ (field (decimal n) ++ 10 ∷ [])
-
--- the first n bytes of a buffer are the text
-pub record Shows (buf : List ℕ) (n : ℕ) (text : List ℕ) : Type 0 where
-  pub upto : n ≤ length buf
-  pub long : n ≡ length (take n buf)
-  pub same : take n buf ≡ text

@@ -3,15 +3,15 @@
 ghost use mathlib.Core.Path.{_≡_};
 ghost use mathlib.Core.List.{[], _∷_};
 ghost use Prim.Native.Nat.{ℕ};
-ghost use Rattle.dayline_text.specs.Cuts.{Adds};
+ghost use Rattle.text_bytes.specs.Written.{Written, Adds};
 ghost use Rattle.dayline_print.specs.Numbers as numbers;
 ghost use Rattle.dayline_print.specs.Printed as printed;
 use daily::DayLine;
 use daily::Extreme;
 use daily::Rain;
-use dayline_text::cut::hold;
-use dayline_text::cut::put;
 use laws::size;
+use text_bytes::put;
+use text_bytes::put_all;
 
 // The digit of n in the place of the ones.
 fn last_digit(n: u64) -> u8
@@ -113,9 +113,9 @@ fn measured(out: &mut [u8], at: usize, day: DayLine) -> usize
 
 // A station's line.
 pub fn day_text(out: &mut [u8; 160], station: u32, day: DayLine) -> usize
-    ensures { λ r. ⌜ printed.Shows (now (out .exit)) r (printed.dayText station day) ⌝ }
+    ensures { λ r. ⌜ Written (now (out .entry)) (now (out .exit)) r (printed.dayText station day) ⌝ }
 {
-    let a = hold(out, 0, &five_digits(station));
+    let a = put_all(out, 0, &five_digits(station));
     let b = measured(out, a, day);
     let c = counts(out, b, day);
     put(out, c, b'\n')
@@ -123,9 +123,9 @@ pub fn day_text(out: &mut [u8; 160], station: u32, day: DayLine) -> usize
 
 // The last line: how many reports were refused.
 pub fn refused_text(out: &mut [u8; 160], n: u64) -> usize
-    ensures { λ r. ⌜ printed.Shows (now (out .exit)) r (printed.refusedText n) ⌝ }
+    ensures { λ r. ⌜ Written (now (out .entry)) (now (out .exit)) r (printed.refusedText n) ⌝ }
 {
-    let a = hold(out, 0, b"refused");
+    let a = put_all(out, 0, b"refused");
     let b = number(out, a, n);
     put(out, b, b'\n')
 }

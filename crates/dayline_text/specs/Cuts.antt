@@ -1,10 +1,10 @@
--- The places where `dayline`'s input is cut, blanks, and a text kept as far as there is room. Assumes nothing.
+-- The places where `dayline`'s input is cut, and blanks. Assumes nothing.
 use Prim.Native.Nat.{ℕ, zero, suc, _≤_}
 use mathlib.Core.Bool.{Bool, _||_, cond}
-use mathlib.Core.List.{List, [], _∷_, _++_}
+use mathlib.Core.List.{List, [], _∷_}
 use mathlib.Core.Path.{_≡_}
 use lib.Dec.{eqb}
-use lib.ListN.{length, take}
+use lib.ListN.{length}
 
 -- a space, CR or LF
 abbrev pub isBlank : ℕ → Bool
@@ -19,12 +19,3 @@ index b (x ∷ s) = cond (eqb x b) zero (suc (index b s))
 pub record Found (b : ℕ) (s : List ℕ) (r : ℕ) : Type 0 where
   pub place : r ≡ index b s
   pub within : r ≤ length s
-
--- of a text the first bytes are kept, as many as there is room for
-pub record Kept (kept : List ℕ) (held : ℕ) (text : List ℕ) : Type 0 where
-  pub upto : held ≤ length kept
-  pub same : take held kept ≡ take (length kept) text
-
--- the text s is put behind what was kept
-abbrev pub Adds : List ℕ → ℕ → List ℕ → ℕ → List ℕ → Type 0
-Adds old held new n s = (text : List ℕ) → Kept old held text → Kept new n (text ++ s)

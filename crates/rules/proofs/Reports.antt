@@ -2,14 +2,19 @@
 --     report-bounds
 -- And a text of more than 512 bytes is refused 1 whatever it holds.
 --     long-report
+-- So the first 513 bytes of a text answer for all of it.
+--     cut-report
 -- Assumes nothing.
-use mathlib.Core.Path.{_≡_, subst}
+use mathlib.Core.Path.{_≡_, sym, _∙_, ap, subst}
 use mathlib.Core.Bool.{true}
 use mathlib.Core.List.{List, [], _∷_}
 use mathlib.Core.Logic.{inl, inr}
 use Prim.Native.Nat.{ℕ, zero, suc, _<_}
+use native.Mathlib.Decide.{decLt}
+use native.Mathlib.Omega.{arith}
 use borrow.Author.Tests.{le-leb, lt-ltb}
-use lib.ListN.{length, getD}
+use lib.ListN.{length, take, getD, length-take}
+use lib.Seq.{take-all}
 use Rattle.synop_codes.specs.Value.{Value, missing, Within}
 use Rattle.synop_codes.proofs.CodeRanges.{Direction}
 use Rattle.synop_contents.proofs.ContentRanges.{AllWithin}
@@ -49,3 +54,10 @@ report-bounds =
 pub long-report : (t : List ℕ) → 512 < length t → report t ≡ Report.refused 1
 unfolding report read refusal check1
 long-report t h = rw (lt-ltb 512 (length t) h)
+
+pub cut-report : (t : List ℕ) → report (take 513 t) ≡ report t
+cut-report t = go (decLt 512 (length t))
+  where
+    go : Dec (512 < length t) → report (take 513 t) ≡ report t
+    go (yes h) = long-report (take 513 t) (omega (arith, length-take 513 t)) ∙ sym (long-report t h)
+    go (no h) = ap report (take-all 513 t (omega arith))

@@ -27,7 +27,3 @@ check2 (b ∷ s) = isKnown b && check2 s
 -- the number of the first of the two that fails, or 0
 unfoldable pub ofBytes : List ℕ → ℕ
 ofBytes s = cond (check1 s) (cond (check2 s) 0 2) 1
-
--- the same where the first `=` stands, `left` bytes before the end, and the bytes before it are known or not
-abbrev pub atEnd : ℕ → Bool → ℕ
-atEnd left known = cond (eqb left 1) (cond known 0 2) 1

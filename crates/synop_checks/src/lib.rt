@@ -18,6 +18,33 @@ fn is_known(b: u8) -> bool
     digit | letter | blank | (b == b'/') | (b == b'=')
 }
 
+// Whether the text ends with its first `=`.
+fn is_ended(s: &[u8]) -> bool
+    ensures { λ r. ⌜ r ≡ bytes.ended (now (s .entry)) ⌝ }
+{
+    let mut i = 0;
+    while i < s.len() {
+        if s[i] == b'=' {
+            return s.len() - i == 1;
+        }
+        i += 1;
+    }
+    false
+}
+
+// Whether all its bytes are known. The loop looks at all of them: without a way out of it, it takes several bytes at a time.
+fn are_known(s: &[u8]) -> bool
+    ensures { λ r. ⌜ r ≡ bytes.check2 (now (s .entry)) ⌝ }
+{
+    let mut known = true;
+    let mut i = 0;
+    while i < s.len() {
+        known = known & is_known(s[i]);
+        i += 1;
+    }
+    known
+}
+
 // The number of the first of checks 1 and 2 that fails, or 0.
 pub fn of_bytes(s: &[u8]) -> u8
     ensures { λ r. ⌜ r ≡ bytes.ofBytes (now (s .entry)) ⌝ }
@@ -25,30 +52,13 @@ pub fn of_bytes(s: &[u8]) -> u8
     if 512 < s.len() {
         return 1;
     }
-    let mut known = true;
-    let mut i = 0;
-    while i < s.len() {
-        let b = s[i];
-        if b == b'=' {
-            return at_end(s.len() - i, known);
-        }
-        known = known & is_known(b);
-        i += 1;
-    }
-    1
-}
-
-// The same where the first `=` stands, with as many bytes left as `left`, itself among them.
-fn at_end(left: usize, known: bool) -> u8
-    ensures { λ r. ⌜ r ≡ bytes.atEnd left known ⌝ }
-{
-    if left != 1 {
+    if !is_ended(s) {
         return 1;
     }
-    if known {
-        return 0;
+    if !are_known(s) {
+        return 2;
     }
-    2
+    0
 }
 
 // ---- 3: a group's shape at its place

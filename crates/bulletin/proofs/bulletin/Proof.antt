@@ -19,15 +19,15 @@ bulletin-spec =
     (λ c κs.
     record {
       sound = via (c .before .before .before .before .before .before .before .before .before .is-sound .ensures) (not-false _ (c .before .before .before .before .before .before .before .before .if1 .left));
-      upto = ready-at (c .before .before .before .before .before .before .end-of .ensures) (c .before .before .before .before .start-of .ensures);
+      upto = ready-at (c .before .before .before .before .before .before .find .ensures) (c .before .before .before .before .start-of .ensures);
       short = short _ (not-false _ (c .before .before .before .before .before .before .before .if2 .left));
     })
     (λ c. search needs)
     (λ c.
     gave-faulty _ _ (via (c .before .before .before .before .before .before .before .before .is-sound .ensures) (not-false _ (c .before .before .before .before .before .before .before .if1 .left))) (not-false _ (c .before .before .before .before .before .before .if2 .left)) _
-    (headed-as (c .before .before .before .before .before .end-of .ensures) (begins-as (c .before .heading .given .1) (c .before .before .before .start-of .ensures)) _))
+    (headed-as (c .before .before .before .before .before .find .ensures) (begins-as (c .before .heading .given .1) (c .before .before .before .start-of .ensures)) _))
     (λ c. search needs)
     (λ c.
     gave-counts _ _ (via (c .before .before .before .before .before .before .before .before .before .before .before .before .is-sound .ensures) (not-false _ (c .before .before .before .before .before .before .before .before .before .before .before .if1 .left))) (not-false _ (c .before .before .before .before .before .before .before .before .before .before .if2 .left)) _ _ _ _ _ _ _ _
-    (headed-as (c .before .before .before .before .before .before .before .before .before .end-of .ensures) (begins-as (c .before .before .before .before .before .heading2 .given .1) (c .before .before .before .before .before .before .before .start-of .ensures)) _)
+    (headed-as (c .before .before .before .before .before .before .before .before .before .find .ensures) (begins-as (c .before .before .before .before .before .heading2 .given .1) (c .before .before .before .before .before .before .before .start-of .ensures)) _)
     (c .before .before .file-reports .ensures)))

@@ -10,7 +10,6 @@ use Rattle.bulletin.proofs.file_reports.Statement.{statement}
 use Rattle.bulletin.proofs.file_reports.Tie as tie
 use Rattle.bulletin.proofs.file_reports.Reads as reads
 use Rattle.bulletin.proofs.file_reports.Lts as lts
-use Rattle.bulletin_text.proofs.end_of.Reads as end-of-reads
 use Rattle.bulletin.proofs.file_report.Reads as file-report-reads
 use Rattle.bulletin_text.proofs.is_blank.Reads as is-blank-reads
 use Rattle.bulletin.proofs.one_if.Reads as one-if-reads
@@ -22,11 +21,11 @@ Inv-loop store₀ text at a b c d e i₀ end₀ accepted₀ refused₀ store i e
 abbrev μ-loop : tie.MeasureT-loop
 μ-loop store₀ text at a b c d e i₀ end₀ accepted₀ refused₀ store i end accepted refused = length text - end
 
-end-of-requires : tie.Need-end-of-requires Inv-loop μ-loop
-end-of-requires c κs = c .before .before .pre .upto
+find-requires : tie.Need-find-requires Inv-loop μ-loop
+find-requires c κs = c .before .before .pre .upto
 
 loop-holds : tie.Need-loop-holds Inv-loop μ-loop
-loop-holds c = filing-none _ _ _ _ _ (c .before .before .before .pre .sound) (c .end-of .ensures)
+loop-holds c = filing-none _ _ _ _ _ (c .before .before .before .pre .sound) (c .find .ensures)
 
 sub-file-report : tie.Need-sub-file-report Inv-loop μ-loop
 sub-file-report c = c .before .before .loop .inv .next .from
@@ -55,14 +54,14 @@ add-refused c = let v = c .before .before .before .before .before .before .befor
 add-i : tie.Need-add-i Inv-loop μ-loop
 add-i c = search needs
 
-end-of-requires-2 : tie.Need-end-of-requires-2 Inv-loop μ-loop
-end-of-requires-2 c κs = search needs
+find-requires-2 : tie.Need-find-requires-2 Inv-loop μ-loop
+find-requires-2 c κs = search needs
 
 loop-less : tie.Need-loop-less Inv-loop μ-loop
-loop-less c = omega (arith, c .end-of2 .ensures .from, c .before .before .before .before .before .before .before .before .loop-test .taken)
+loop-less c = omega (arith, c .find2 .ensures .from, c .before .before .before .before .before .before .before .before .loop-test .taken)
 
 loop-again : tie.Need-loop-again Inv-loop μ-loop
-loop-again c = filing-more (c .before .before .before .before .before .file-report .result) _ _ _ _ (c .before .before .before .before .before .before .before .before .before .loop .inv) (search needs) (search needs) (c .before .before .before .before .before .file-report .ensures) (c .before .before .one-if .ensures) (c .before .one-unless .ensures) (c .end-of2 .ensures)
+loop-again c = filing-more (c .before .before .before .before .before .file-report .result) _ _ _ _ (c .before .before .before .before .before .before .before .before .before .loop .inv) (search needs) (search needs) (c .before .before .before .before .before .file-report .ensures) (c .before .before .one-if .ensures) (c .before .one-unless .ensures) (c .find2 .ensures)
 
 sub-is-blank : tie.Need-sub-is-blank Inv-loop μ-loop
 sub-is-blank c = c .before .loop .inv .next .from
@@ -94,7 +93,7 @@ file-reports-spec =
     (tie.spec
     Inv-loop
     μ-loop
-    end-of-requires
+    find-requires
     loop-holds
     sub-file-report
     part-file-report-start
@@ -105,7 +104,7 @@ file-reports-spec =
     one-unless-requires
     add-refused
     add-i
-    end-of-requires-2
+    find-requires-2
     loop-less
     loop-again
     sub-is-blank

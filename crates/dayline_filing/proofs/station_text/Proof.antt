@@ -9,7 +9,7 @@ returns : tie.Need-returns
 returns c =
     record {
       left = c .before .before .before .before .before .before .before .before .before .settle .ensures .left;
-      shows = line-shown _ _ _ (c .before .before .before .before .before .before .before .before .before .settle .ensures .left) _ (c .before .before .before .before .before .day .ensures) _ (c .before .before .before .day2 .given .1) _ _ (c .day-text .ensures);
+      shows = line-shown _ _ _ (c .before .before .before .before .before .before .before .before .before .settle .ensures .left) _ (c .before .before .before .before .before .day .ensures) _ (c .before .before .before .day2 .given .1) _ _ _ (c .day-text .ensures);
     }
 
 returns-2 : tie.Need-returns-2

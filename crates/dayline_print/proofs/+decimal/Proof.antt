@@ -9,7 +9,7 @@ use borrow.Fn.PlainCycle.{Measures, is, falls, and}
 use Rattle.dayline_print.proofs.decimal.Reads as decimal
 use Rattle.dayline_print.proofs.decimal.Kinds as decimal-kinds
 use Rattle.dayline_print.proofs.+decimal.Lts-decimal as decimal-lts
-use Rattle.dayline_text.proofs.cut.put.Reads as put-reads
+use Rattle.text_bytes.proofs.put.Reads as put-reads
 use Rattle.dayline_print.proofs.last_digit.Reads as last-digit-reads
 use Rattle.dayline_print.proofs.+decimal.{statement}
 use Rattle.dayline_print.proofs.+decimal.Tie.{close}
@@ -23,98 +23,7 @@ decimal-at t = and 1 decimal-kinds.ps (is 1 decimal-kinds.ps μ-decimal t) decim
 abbrev decimal-below : ℕ → In 1 decimal-kinds.ps
 decimal-below t = and 1 decimal-kinds.ps (falls 1 decimal-kinds.ps _<_ μ-decimal t) decimal.Pre
 
-decimal-last-digit-requires : (t : ℕ) → decimal-lts.Need-last-digit-requires (
-  last-digit-reads.Asked,
-  last-digit-reads.Learnt,
-  put-reads.Asked,
-  put-reads.Learnt,
-  decimal-below t,
-  decimal.Post,
-) (decimal-at t) decimal.Post
-decimal-last-digit-requires t c κs = search needs
-
-decimal-put-requires : (t : ℕ) → decimal-lts.Need-put-requires (
-  last-digit-reads.Asked,
-  last-digit-reads.Learnt,
-  put-reads.Asked,
-  put-reads.Learnt,
-  decimal-below t,
-  decimal.Post,
-) (decimal-at t) decimal.Post
-decimal-put-requires t c κs = search needs
-
-decimal-same-length : (t : ℕ) → decimal-lts.Need-same-length (
-  last-digit-reads.Asked,
-  last-digit-reads.Learnt,
-  put-reads.Asked,
-  put-reads.Learnt,
-  decimal-below t,
-  decimal.Post,
-) (decimal-at t) decimal.Post
-decimal-same-length t c = search needs
-
-decimal-returns : (t : ℕ) → decimal-lts.Need-returns (
-  last-digit-reads.Asked,
-  last-digit-reads.Learnt,
-  put-reads.Asked,
-  put-reads.Learnt,
-  decimal-below t,
-  decimal.Post,
-) (decimal-at t) decimal.Post
-decimal-returns t c = decimal-one _ _ (c .before .before .before .last-digit .ensures) (c .before .before .before .before .before .if1 .taken) (c .before .before .put .ensures)
-
-decimal-decimal-requires : (t : ℕ) → decimal-lts.Need-decimal-requires (
-  last-digit-reads.Asked,
-  last-digit-reads.Learnt,
-  put-reads.Asked,
-  put-reads.Learnt,
-  decimal-below t,
-  decimal.Post,
-) (decimal-at t) decimal.Post
-decimal-decimal-requires t c κs = (omega arith, tt)
-
-decimal-last-digit-requires-2 : (t : ℕ) → decimal-lts.Need-last-digit-requires-2 (
-  last-digit-reads.Asked,
-  last-digit-reads.Learnt,
-  put-reads.Asked,
-  put-reads.Learnt,
-  decimal-below t,
-  decimal.Post,
-) (decimal-at t) decimal.Post
-decimal-last-digit-requires-2 t c κs = search needs
-
-decimal-put-requires-2 : (t : ℕ) → decimal-lts.Need-put-requires-2 (
-  last-digit-reads.Asked,
-  last-digit-reads.Learnt,
-  put-reads.Asked,
-  put-reads.Learnt,
-  decimal-below t,
-  decimal.Post,
-) (decimal-at t) decimal.Post
-decimal-put-requires-2 t c κs = search needs
-
-decimal-same-length-2 : (t : ℕ) → decimal-lts.Need-same-length-2 (
-  last-digit-reads.Asked,
-  last-digit-reads.Learnt,
-  put-reads.Asked,
-  put-reads.Learnt,
-  decimal-below t,
-  decimal.Post,
-) (decimal-at t) decimal.Post
-decimal-same-length-2 t c = search needs
-
-decimal-returns-2 : (t : ℕ) → decimal-lts.Need-returns-2 (
-  last-digit-reads.Asked,
-  last-digit-reads.Learnt,
-  put-reads.Asked,
-  put-reads.Learnt,
-  decimal-below t,
-  decimal.Post,
-) (decimal-at t) decimal.Post
-decimal-returns-2 t c =
-    decimal-more _ _ (c .before .before .before .last-digit2 .ensures) (c .before .before .before .before .before .before .before .before .before .if1 .left) (c .before .before .before .before .before .before .before .decimal .ensures)
-    (c .before .before .put2 .ensures)
-
+-- one digit, or those before it and the last
 pub +decimal-spec : {M : Type 1} → statement M
 +decimal-spec = close μ-decimal λ t. decimal-lts.spec (
   last-digit-reads.Asked,
@@ -126,12 +35,14 @@ pub +decimal-spec : {M : Type 1} → statement M
 )
     (decimal-at t)
     decimal.Post
-    (decimal-last-digit-requires t)
-    (decimal-put-requires t)
-    (decimal-same-length t)
-    (decimal-returns t)
-    (decimal-decimal-requires t)
-    (decimal-last-digit-requires-2 t)
-    (decimal-put-requires-2 t)
-    (decimal-same-length-2 t)
-    (decimal-returns-2 t)
+    (λ c κs. search needs)
+    (λ c κs. search needs)
+    (λ c. search needs)
+    (λ c. decimal-one _ _ (c .before .before .before .last-digit .ensures) (c .before .before .before .before .before .if1 .taken) (c .before .before .put .ensures))
+    (λ c κs. (omega arith, tt))
+    (λ c κs. search needs)
+    (λ c κs. search needs)
+    (λ c. search needs)
+    (λ c.
+    decimal-more _ _ (c .before .before .before .last-digit2 .ensures) (c .before .before .before .before .before .before .before .before .before .if1 .left) (c .before .before .before .before .before .before .before .decimal .ensures)
+    (c .before .before .put2 .ensures))

@@ -2,7 +2,7 @@
 -- Assumes nothing.
 use borrow.Author.Needs.{needs}
 use mathlib.Core.List.{[], _∷_}
-use Rattle.dayline_text.proofs.Keeping.{adds-two}
+use Rattle.text_bytes.proofs.Writing.{adds-two}
 use Rattle.dayline_print.proofs.absent.Statement.{statement}
 use Rattle.dayline_print.proofs.absent.Tie as tie
 

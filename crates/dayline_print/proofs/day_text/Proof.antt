@@ -2,7 +2,7 @@
 -- Assumes nothing.
 use borrow.Author.Needs.{needs}
 use Rattle.dayline_print.specs.Printed.{stationText}
-use Rattle.dayline_text.proofs.Keeping.{adds-as, adds-two}
+use Rattle.text_bytes.proofs.Writing.{adds-as, adds-two}
 use Rattle.dayline_print.proofs.Printing.{day-short, shown}
 use Rattle.dayline_print.proofs.day_text.Statement.{statement}
 use Rattle.dayline_print.proofs.day_text.Tie as tie
@@ -11,7 +11,7 @@ returns : tie.Need-returns
 unfolding stationText
 returns c =
     shown _ _ _
-    (adds-two _ _ (adds-as (c .before .before .before .before .before .before .before .before .five-digits .ensures) (c .before .before .before .before .before .before .hold .ensures))
+    (adds-two _ _ (adds-as (c .before .before .before .before .before .before .before .before .five-digits .ensures) (c .before .before .before .before .before .before .put-all .ensures))
     (adds-two _ _ (c .before .before .before .before .measured .ensures) (adds-two _ _ (c .before .before .counts .ensures) (c .put .ensures))))
     (search needs) (day-short (c .before .before .before .before .before .before .before .before .before .before .args .station) (c .before .before .before .before .before .before .before .before .before .before .args .day))
 

@@ -1,7 +1,7 @@
 -- `dayline_print::measured` meets its contract.
 -- Assumes nothing.
 use borrow.Author.Needs.{needs}
-use Rattle.dayline_text.proofs.Keeping.{adds-two}
+use Rattle.text_bytes.proofs.Writing.{adds-two}
 use Rattle.dayline_print.proofs.measured.Statement.{statement}
 use Rattle.dayline_print.proofs.measured.Tie as tie
 

@@ -2,7 +2,7 @@
 -- Assumes nothing.
 use borrow.Author.Needs.{needs}
 use mathlib.Core.List.{[], _∷_}
-use Rattle.dayline_text.proofs.Keeping.{adds-two}
+use Rattle.text_bytes.proofs.Writing.{adds-two}
 use Rattle.dayline_print.proofs.Printing.{enough-64}
 use Rattle.dayline_print.proofs.number.Statement.{statement}
 use Rattle.dayline_print.proofs.number.Tie as tie

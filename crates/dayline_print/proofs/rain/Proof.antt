@@ -7,7 +7,7 @@ use mir.Facts.{toZ-ofZ}
 use mir.Syntax.{w32}
 use Rattle.daily.specs.declared.Rain.{Rain}
 use Rattle.dayline_print.specs.Printed.{field, signed, rain}
-use Rattle.dayline_text.proofs.Keeping.{adds-as}
+use Rattle.text_bytes.proofs.Writing.{adds-as}
 use Rattle.dayline_print.proofs.rain.Statement.{statement}
 use Rattle.dayline_print.proofs.rain.Tie as tie
 

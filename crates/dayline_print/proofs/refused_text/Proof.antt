@@ -2,7 +2,7 @@
 -- Assumes nothing.
 use borrow.Author.Needs.{needs}
 use Rattle.dayline_print.specs.Printed.{refusedText}
-use Rattle.dayline_text.proofs.Keeping.{adds-two}
+use Rattle.text_bytes.proofs.Writing.{adds-two}
 use Rattle.dayline_print.proofs.Printing.{refused-short, shown}
 use Rattle.dayline_print.proofs.refused_text.Statement.{statement}
 use Rattle.dayline_print.proofs.refused_text.Tie as tie
@@ -10,7 +10,7 @@ use Rattle.dayline_print.proofs.refused_text.Tie as tie
 returns : tie.Need-returns
 unfolding refusedText
 returns c =
-    shown _ _ _ (adds-two _ _ (c .before .before .before .before .hold .ensures) (adds-two _ _ (c .before .before .number .ensures) (c .put .ensures)))
+    shown _ _ _ (adds-two _ _ (c .before .before .before .before .put-all .ensures) (adds-two _ _ (c .before .before .number .ensures) (c .put .ensures)))
     (search needs) (refused-short _)
 
 pub refused-text-spec : {M : Type 1} → statement M

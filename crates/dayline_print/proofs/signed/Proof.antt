@@ -7,7 +7,7 @@ use mir.Syntax.{w32}
 use mir.Val.{toZ, ofZ}
 use mathlib.Core.List.{[], _∷_}
 use Rattle.dayline_print.specs.Printed.{field, decimal, signed}
-use Rattle.dayline_text.proofs.Keeping.{adds-as, adds-two}
+use Rattle.text_bytes.proofs.Writing.{adds-as, adds-two}
 use Rattle.dayline_print.proofs.Printing.{enough-64, signed-minus, signed-plain}
 use Rattle.dayline_print.proofs.signed.Statement.{statement}
 use Rattle.dayline_print.proofs.signed.Tie as tie
