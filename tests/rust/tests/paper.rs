@@ -4,10 +4,11 @@ use reading::calls::Reference;
 use reading::dayline::DayLines;
 use reading::generate::{episode, Step};
 use reading::reference::calendar::Date;
+use reading::reference::layout::store_length;
 use reading::reference::{self, report, settle, store, values, vapour, Cell, Mean, Tally};
 
 fn opened(stations: &[u32]) -> Vec<u8> {
-    let mut store = vec![0xaa; store::length(stations.len())];
+    let mut store = vec![0xaa; store_length(stations.len())];
     reference::open(&mut store, 2024, 4, 11, stations, &vec![0; stations.len()]).unwrap();
     store
 }

@@ -1,11 +1,12 @@
 //! The transcript that the program `test_engine` must print, made by the reference: the lines of standard input, one call each on one
 //! buffer, with each call's answer and with what it did to the buffer. `crates/test_engine/src/main.rt` says what the lines are.
 
+use reading::reference::layout::store_length;
 use reading::reference::{self, DayLine, Mean, Refusal};
 use std::io::{self, Read};
 
 /// Room for one station more than a store may have.
-const SIZE: usize = 16 + 692 * 33;
+const SIZE: usize = store_length(33);
 
 fn main() -> io::Result<()> {
     let mut script = String::new();
