@@ -2,12 +2,12 @@
 use crate::print::count;
 use crate::print::number;
 use crate::print::text;
+use store_numbers::at::BLOCK_LENGTH;
+use store_numbers::at::ENTRY_LENGTH;
+use store_numbers::at::HEADER_LENGTH;
 
-pub fn put(store: &mut [u8], at: usize, byte: u32) {
-    if at < store.len() {
-        store[at] = (byte % 256) as u8;
-    }
-}
+// Room for one station more than a store may have.
+pub const ROOM: usize = HEADER_LENGTH + 33 * (ENTRY_LENGTH + BLOCK_LENGTH);
 
 // The bytes that differ: how many, the first and the last.
 struct Span {
@@ -36,13 +36,13 @@ fn note(s: Span, differs: bool, i: usize) -> Span {
     }
 }
 
-fn span_of(before: [u8; 22852], now: [u8; 22852]) -> Span {
+fn span_of(before: [u8; ROOM], now: [u8; ROOM]) -> Span {
     let mut s = Span {
         n: 0,
         first: 0,
         last: 0,
     };
-    for i in 0..22852 {
+    for i in 0..ROOM {
         s = note(s, before[i] != now[i], i);
     }
     s
@@ -57,7 +57,7 @@ fn changed(s: Span) {
     number(s.last as u64);
 }
 
-pub fn compare(before: [u8; 22852], now: [u8; 22852]) {
+pub fn compare(before: [u8; ROOM], now: [u8; ROOM]) {
     if check::same(&before, &now) {
         text(b", store as it was");
         return;

@@ -5,7 +5,7 @@
 //! ```text
 //! lend N stations          a buffer as long as a store of N, to work on from now on, none of its bytes 0
 //! lend N stations less M   the same with M bytes less, or `more M`
-//! lend N                   the same, of N bytes
+//! lend N bytes             the same, of N bytes
 //! made SEED                the same, a sound store of the last good opening with anything in it
 //! edit RECORD FIELD NUMBER ..   fields set before the next call, and put back where it is refused 9
 //! edit byte AT BYTE ..     bytes, in the same way
@@ -158,7 +158,7 @@ impl Reader {
 }
 
 /// The length that a `lend` line asks for.
-fn buffer_length<'a>(words: &mut impl Iterator<Item = &'a [u8]>) -> usize {
+pub fn buffer_length<'a>(words: &mut impl Iterator<Item = &'a [u8]>) -> usize {
     let mut next = || words.next().unwrap_or(b"");
     let n = number(next()) as usize;
     let length = if next().starts_with(b"station") { store_length(n.min(99)) } else { n };
@@ -172,7 +172,11 @@ fn buffer_length<'a>(words: &mut impl Iterator<Item = &'a [u8]>) -> usize {
 }
 
 /// The record that an `edit` line names, in a store of these stations.
-fn record<'a>(stations: &[u32], kind: &[u8], words: &mut impl Iterator<Item = &'a [u8]>) -> Option<Record> {
+pub fn record<'a>(
+    stations: &[u32],
+    kind: &[u8],
+    words: &mut impl Iterator<Item = &'a [u8]>,
+) -> Option<Record> {
     if kind == b"header" {
         return Some(Record::Header);
     }

@@ -1,4 +1,4 @@
--- `cases::compared::span_of` is safe and ends.
+-- `test_cases::compared::span_of` is safe and ends.
 -- Assumes nothing.
 use Prim.Native.Nat.{_-_}
 use borrow.Author.Needs.{needs}
@@ -12,7 +12,7 @@ abbrev Inv-loop : tie.InvT-loop
 Inv-loop before now s₀ i₀ s i = Unit {0}
 
 abbrev μ-loop : tie.MeasureT-loop
-μ-loop before now s₀ i₀ s i = 22852 - i
+μ-loop before now s₀ i₀ s i = 99999 - i
 
 loop-holds : tie.Need-loop-holds Inv-loop μ-loop
 loop-holds c = search needs
