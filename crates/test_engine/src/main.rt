@@ -59,6 +59,10 @@ fn file(store: &mut [u8], l: &[u8]) {
     said(engine::file(store, &l[from..]));
 }
 
+fn settle(store: &mut [u8], station: u32) {
+    said(engine::settle(store, station));
+}
+
 fn cell(store: &[u8], station: u32, element: u32, slot: u32) {
     match engine::cell(store, station, element, slot) {
         CellReply::Refused(n) => count(n),
@@ -93,7 +97,7 @@ fn call(store: &mut [u8], n: usize, l: &[u8]) {
     match kind_of(l) {
         Kind::Open => open(store, l),
         Kind::File => file(store, l),
-        Kind::Settle => said(engine::settle(store, a)),
+        Kind::Settle => settle(store, a),
         Kind::Cell => cell(store, a, b, c),
         Kind::Element => element(store, a, b),
         Kind::Day => day(store, a),
