@@ -5,14 +5,8 @@ use crate::print::text;
 use store_numbers::at::LONGEST_STORE;
 use store_numbers::at::STATION_LENGTH;
 
-// The buffer of the calls: room for one station more than a store may have.
-pub const BUFFER: usize = LONGEST_STORE + STATION_LENGTH;
-
-pub fn put(store: &mut [u8], at: usize, byte: u32) {
-    if at < store.len() {
-        store[at] = (byte % 256) as u8;
-    }
-}
+// Room for one station more than a store may have.
+pub const ROOM: usize = LONGEST_STORE + STATION_LENGTH;
 
 // The bytes that differ: how many, the first and the last.
 struct Span {
@@ -41,13 +35,13 @@ fn note(s: Span, differs: bool, i: usize) -> Span {
     }
 }
 
-fn span_of(before: [u8; BUFFER], now: [u8; BUFFER]) -> Span {
+fn span_of(before: [u8; ROOM], now: [u8; ROOM]) -> Span {
     let mut s = Span {
         n: 0,
         first: 0,
         last: 0,
     };
-    for i in 0..BUFFER {
+    for i in 0..ROOM {
         s = note(s, before[i] != now[i], i);
     }
     s
@@ -62,7 +56,7 @@ fn changed(s: Span) {
     number(s.last as u64);
 }
 
-pub fn compare(before: [u8; BUFFER], now: [u8; BUFFER]) {
+pub fn compare(before: [u8; ROOM], now: [u8; ROOM]) {
     if check::same(&before, &now) {
         text(b", store as it was");
         return;

@@ -1,15 +1,14 @@
 // Runs the calls that standard input (up to 65,536 bytes) names, one to a line, on one buffer. Each line is printed with the call's answer
-// and with what the call did to the buffer, of which a copy is kept and compared byte by byte. The first letter of a line says what it is;
-// numbers stand at fixed places:
+// and with what the call did to the buffer, of which a copy is kept and compared byte by byte. A line is words with one space between them:
 //
-//     open    2024 04 11 040001 0 040002 1   the date; for each station its number and row (the last row may be left out)
-//     file    TEXT
-//     settle  40001
-//     cell    40001 0 0                      station, element, slot
-//     element 40001 0                        the nine cells of an element
-//     day     40001
-//     put     00079 128                      a byte of what is lent is changed, by its place
-//     lend    2092                           the lines that follow are lent the first 2092 bytes of the buffer
+//     open 2024 4 11 40001 0 40002 1   the date; for each station its number and row (the last row may be left out)
+//     file TEXT                        all that follows the space
+//     settle 40001
+//     cell 40001 0 0                   station, element, slot
+//     element 40001 0                  the nine cells of an element
+//     day 40001
+//     lend 2 stations                  the lines that follow are lent as many bytes of the buffer as a store of two stations has; `less 1`, `more 1`
+//     put head 40001 3 tR 10           a field of what is lent is changed, by its name (crate test_lines, `fields`)
 //     # a comment
 //
 // A cell is printed as its state, flag and value. A day line: the means of T, D, P, W, C and vapour pressure (`-` absent, read or mended, in
@@ -21,16 +20,21 @@ use engine_answers::CellReply;
 use engine_answers::DayReply;
 use engine_answers::Reply;
 use libc::STDIN_FILENO;
-use test_cases::compared::BUFFER;
+use test_cases::compared::ROOM;
 use test_cases::compared::compare;
-use test_cases::compared::put;
 use test_cases::print::count;
 use test_cases::print::number;
 use test_cases::print::print_line;
 use test_cases::print::signed;
 use test_cases::print::text;
-use test_cases::words;
-use test_cases::words::number_at;
+use test_lines::fields::Lent;
+use test_lines::fields::lend;
+use test_lines::fields::put;
+use test_lines::words;
+use test_lines::words::Kind;
+use test_lines::words::is;
+use test_lines::words::kind_of;
+use test_lines::words::number_of;
 
 fn said(r: Reply) {
     match r {
@@ -42,17 +46,21 @@ fn said(r: Reply) {
 fn open(store: &mut [u8], l: &[u8]) {
     let stations = words::stations_of(l);
     let rows = words::rows_of(l);
-    let n = words::fields(l, 16);
-    let k = words::fields(l, 18);
-    let year = number_at(l, 8);
-    let month = number_at(l, 13);
-    let day = number_at(l, 16);
+    let n = words::pairs(l, 2);
+    let k = words::pairs(l, 3);
+    let year = number_of(l, 1);
+    let month = number_of(l, 2);
+    let day = number_of(l, 3);
     said(engine::open(store, year, month, day, &stations[..n], &rows[..k]));
 }
 
 fn file(store: &mut [u8], l: &[u8]) {
-    let from = words::start(l);
+    let from = words::start(l, 1);
     said(engine::file(store, &l[from..]));
+}
+
+fn settle(store: &mut [u8], station: u32) {
+    said(engine::settle(store, station));
 }
 
 fn cell(store: &[u8], station: u32, element: u32, slot: u32) {
@@ -81,46 +89,46 @@ fn day(store: &[u8], station: u32) {
     }
 }
 
-// A line's call; a, b and c are the numbers of all but `open` and `file`.
-fn call(store: &mut [u8], l: &[u8], letter: u8, a: u32, b: u32, c: u32) {
-    match letter {
-        b'o' => open(store, l),
-        b'f' => file(store, l),
-        b's' => said(engine::settle(store, a)),
-        b'c' => cell(store, a, b, c),
-        b'e' => element(store, a, b),
-        b'd' => day(store, a),
-        _ => put(store, a as usize, b),
+// A line's call on a store of n stations.
+fn call(store: &mut [u8], n: usize, l: &[u8]) {
+    let a = number_of(l, 1);
+    let b = number_of(l, 2);
+    let c = number_of(l, 3);
+    match kind_of(l) {
+        Kind::Open => open(store, l),
+        Kind::File => file(store, l),
+        Kind::Settle => settle(store, a),
+        Kind::Cell => cell(store, a, b, c),
+        Kind::Element => element(store, a, b),
+        Kind::Day => day(store, a),
+        Kind::Put => put(store, n, l),
+        Kind::Other => text(b" no such call"),
     }
 }
 
 // A line's call on the first bytes of the buffer, which comes back as the call leaves it; a comment and `lend` make none.
-fn step(buffer: [u8; BUFFER], l: &[u8], letter: u8, lent: u32) -> [u8; BUFFER] {
-    if (letter == b'#') | (letter == b'l') {
+fn step(buffer: [u8; ROOM], n: usize, bytes: u32, l: &[u8]) -> [u8; ROOM] {
+    if is(l, 0, b"#") | is(l, 0, b"lend") {
         return buffer;
     }
     text(b" ->");
-    let a = number_at(l, 8);
-    let b = number_at(l, 14);
-    let c = number_at(l, 16);
     let mut now = buffer;
-    let n = io::count(lent as isize, &now);
-    call(&mut now[..n], l, letter, a, b, c);
+    let size = io::count(bytes as isize, &now);
+    call(&mut now[..size], n, l);
     compare(buffer, now);
     now
 }
 
 fn run(script: &[u8]) {
-    let mut buffer = [7u8; BUFFER];
-    let mut lent = 0;
+    let mut buffer = [7u8; ROOM];
+    let mut lent = Lent { n: 0, bytes: 0 };
     let mut at = 0;
     while at < script.len() {
         let end = words::find(script, b'\n', at);
         let l = &script[at..end];
         text(l);
-        let letter = words::letter_of(l);
-        lent = words::lend(l, letter, lent);
-        let next = step(buffer, l, letter, lent);
+        lent = lend(l, lent);
+        let next = step(buffer, lent.n, lent.bytes, l);
         buffer = next;
         text(b"\n");
         at = end + 1;

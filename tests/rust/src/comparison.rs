@@ -5,6 +5,7 @@ use crate::calls::{Calls, Reference};
 use crate::generate::stores::Edits;
 use crate::generate::{episode, Answer, Call, Step};
 use crate::reached::Reached;
+use crate::reference::layout::{field_at, stations_for};
 
 /// What a run showed.
 #[derive(Default)]
@@ -123,7 +124,11 @@ impl<'a> Pair<'a> {
         text += &format!("  reference: {}\n  engine:    {}\n", ours.shown(call), theirs.shown(call));
         let places: Vec<usize> = (0..self.ours.len()).filter(|&i| self.ours[i] != self.theirs[i]).collect();
         for &at in places.iter().take(8) {
-            text += &format!("  byte {at}: reference {}, engine {}\n", self.ours[at], self.theirs[at]);
+            let field = stations_for(self.ours.len()).and_then(|n| field_at(n, at));
+            let named = field.map_or(String::new(), |(record, field)| {
+                format!(" ({} of {record:?})", record.fields()[field].name)
+            });
+            text += &format!("  byte {at}{named}: reference {}, engine {}\n", self.ours[at], self.theirs[at]);
         }
         text + &format!("  {} bytes of the store differ", places.len())
     }

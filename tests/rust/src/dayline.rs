@@ -1,6 +1,6 @@
 //! The program `dayline` of the paper, over the reference: input in pieces of any size, fixed memory.
 
-use crate::reference::{self, store};
+use crate::reference::{self, layout::store_length};
 use std::fmt::Write;
 
 /// Year, month, day, then 32 pairs of station and row.
@@ -66,7 +66,7 @@ impl DayLines {
     /// Opens the store that the first line asks for.
     fn open(&mut self) {
         let Some((date, stations, rows)) = self.first_line.take().and_then(FirstLine::fields) else { return };
-        let mut store = vec![0; store::length(stations.len())];
+        let mut store = vec![0; store_length(stations.len())];
         if reference::open(&mut store, date[0], date[1], date[2], &stations, &rows).is_ok() {
             self.store = Some(store);
             self.stations = stations;

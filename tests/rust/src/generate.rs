@@ -7,7 +7,7 @@ pub mod stores;
 pub mod texts;
 
 use crate::calls::Calls;
-use crate::reference::store::length;
+use crate::reference::layout::store_length;
 use rng::Rng;
 use std::fmt;
 use stores::{Edits, Opening};
@@ -133,7 +133,7 @@ impl Scene {
     }
 
     fn start(&self, rng: &mut Rng) -> Vec<Step> {
-        let buffer = rng.bytes(length(self.opening.stations.len()));
+        let buffer = rng.bytes(store_length(self.opening.stations.len()));
         vec![Step::Lend(buffer), Step::Call(Call::Open(self.opening.clone()))]
     }
 
@@ -372,7 +372,7 @@ fn openings(rng: &mut Rng) -> Vec<Step> {
     let mut steps = Vec::new();
     for _ in 0..20 + rng.below(20) {
         let mut opening = Opening::good(rng);
-        let mut len = length(opening.stations.len());
+        let mut len = store_length(opening.stations.len());
         if rng.chance(80) {
             opening.spoil(rng, &mut len);
         }

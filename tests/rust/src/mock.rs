@@ -2,6 +2,8 @@
 //! that the comparison notices.
 
 use crate::calls::{Calls, Reference};
+use crate::reference::layout::{Field, Record, ENTRY, FLAG, HEADER, SETTLED, STATE, ZERO};
+use crate::reference::store;
 use std::slice;
 use std::sync::atomic::{AtomicUsize, Ordering};
 
@@ -35,6 +37,13 @@ pub fn set_fault(fault: usize) {
 
 fn fault(number: usize) -> bool {
     FAULT.load(Ordering::Relaxed) == number
+}
+
+/// Sets a field of a store.
+fn set(store: &mut [u8], record: Record, field: Field, number: u32) {
+    for (at, byte) in record.edit(store::stations(store), field, number) {
+        store[at] = byte;
+    }
 }
 
 // The pointers are those of `engine.rs`: of slices and arrays that are lent for the call.
@@ -90,11 +99,13 @@ unsafe extern "C" fn esfenruk_file(
     if fault(4) && number == 5 {
         return 3;
     }
+    let entry = Record::Entry { index: 0 };
     if fault(5) && number == 0 {
-        store[16..24].copy_from_slice(&before[16..24]);
+        let at = entry.at(store::stations(store));
+        store[at..at + ENTRY].copy_from_slice(&before[at..at + ENTRY]);
     }
     if (fault(6) && number == 8) || (fault(7) && number == 0 && nil) {
-        store[23] = 0;
+        set(store, entry, SETTLED, 0);
     }
     number
 }
@@ -104,10 +115,10 @@ unsafe extern "C" fn esfenruk_settle(store: *mut u8, store_len: usize, station: 
     let store = lent_mut(store, store_len);
     let number = Reference.settle(store, station);
     if fault(8) && number == 0 {
-        let n = usize::from(store[1]);
-        for block in store[16 + 8 * n..].chunks_exact_mut(684) {
-            for cell in block[360..].chunks_exact_mut(4).filter(|cell| cell[0] == 2) {
-                cell[1] = 0;
+        let n = store::stations(store);
+        for record in Record::all(n).filter(|record| matches!(record, Record::Checked { .. })) {
+            if store[record.at(n) + STATE.at] == store::CORRECTED {
+                set(store, record, FLAG, 0);
             }
         }
     }
@@ -144,9 +155,9 @@ unsafe extern "C" fn esfenruk_day(
 ) -> u32 {
     let store = lent(store, store_len);
     let (means, numbers) = (&mut *means, &mut *numbers);
-    if fault(16) && store_len >= 16 {
+    if fault(16) && store_len >= HEADER {
         let mut copy = store.to_vec();
-        copy[14..16].fill(0);
+        set(&mut copy, Record::Header, ZERO, 0);
         return Reference.day(&copy, station, means, numbers);
     }
     let number = Reference.day(store, station, means, numbers);

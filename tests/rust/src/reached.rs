@@ -4,8 +4,9 @@
 use crate::generate::stores::Opening;
 use crate::generate::{Answer, Call, Step};
 use crate::reference::calendar::Date;
+use crate::reference::layout::{self, field_at, stations_for, store_length, Record};
 use crate::reference::report::{self, groups, is_blank, Observation};
-use crate::reference::store::{self, length};
+use crate::reference::store;
 use std::collections::BTreeMap;
 
 /// The rows: the answers of the six calls, then the rest.
@@ -19,12 +20,12 @@ pub const ROWS: &[(&str, &[u32])] = &[
     // What alone is wrong with a refused opening, as `opening_faults` has them.
     ("open: the one fault", &[0, 1, 2, 3, 4, 5, 6]),
     ("stations of a store", &[1, 2, 31, 32]),
-    // The one field that makes a store unsound.
-    ("unsound: header number", &[0, 1, 2, 3, 4, 5, 6, 7]),
-    ("unsound: entry's number, row, settled", &[0, 1, 2]),
-    ("unsound: head's filed, iR, tR, dd", &[0, 1, 2, 3]),
-    ("unsound: raw cell's state, flag, value", &[0, 1, 2]),
-    ("unsound: checked cell's state, flag, value", &[0, 1, 2]),
+    // The one field that makes a store unsound, numbered as the layout has them.
+    ("unsound: header's field", first(layout::HEADER_FIELDS.len())),
+    ("unsound: entry's field", first(layout::ENTRY_FIELDS.len())),
+    ("unsound: head's field", first(layout::HEAD_FIELDS.len())),
+    ("unsound: raw cell's field", first(layout::CELL_FIELDS.len())),
+    ("unsound: checked cell's field", first(layout::CELL_FIELDS.len())),
     // 0 none, 1 less than a header, 2 too short, 3 too long for its n.
     ("unsound: length", &[0, 1, 2, 3]),
     ("file: bytes of an accepted text", &[511, 512]),
@@ -84,6 +85,12 @@ pub const ROWS: &[(&str, &[u32])] = &[
     ("bulletin: accepted", &[0, 1, 2]),
 ];
 
+/// 0, 1, .. n - 1.
+const fn first(n: usize) -> &'static [u32] {
+    const NUMBERS: &[u32] = &[0, 1, 2, 3, 4, 5, 6, 7, 8, 9, 10, 11, 12, 13, 14, 15];
+    NUMBERS.split_at(n).0
+}
+
 const READ: usize = 24;
 const STATE: usize = READ + 9;
 const FLAG: usize = STATE + 9;
@@ -139,25 +146,23 @@ impl Reached {
     }
 
     fn unsound(&mut self, store: &[u8], edits: &[(usize, u8)]) {
-        let n = store.get(1).map_or(0, |&n| usize::from(n));
-        if store.len() < 16 {
+        if store.len() < layout::HEADER {
             self.add("unsound: length", (!store.is_empty()).into());
-        } else if store.len() != length(n) && edits.is_empty() {
-            self.add("unsound: length", if store.len() < length(n) { 2 } else { 3 });
+        } else if edits.is_empty() {
+            let right = store_length(store::stations(store));
+            if store.len() != right {
+                self.add("unsound: length", if store.len() < right { 2 } else { 3 });
+            }
         }
         // The buffer before the edits had the length of a store.
-        let Some(&(at, _)) = edits.first() else { return };
-        let entries = 16 + 8 * (store.len() / 692);
-        let (row, field) = match at {
-            0..16 => ("unsound: header number", at / 2),
-            _ if at < entries => {
-                ("unsound: entry's number, row, settled", [0, 0, 0, 0, 1, 1, 2, 2][(at - 16) % 8])
-            }
-            _ => match (at - entries) % 684 {
-                head @ 0..36 => ("unsound: head's filed, iR, tR, dd", head % 4),
-                raw @ 36..360 => ("unsound: raw cell's state, flag, value", [0, 1, 2, 2][raw % 4]),
-                checked => ("unsound: checked cell's state, flag, value", [0, 1, 2, 2][checked % 4]),
-            },
+        let (Some(&(at, _)), Some(n)) = (edits.first(), stations_for(store.len())) else { return };
+        let Some((record, field)) = field_at(n, at) else { return };
+        let row = match record {
+            Record::Header => "unsound: header's field",
+            Record::Entry { .. } => "unsound: entry's field",
+            Record::Head { .. } => "unsound: head's field",
+            Record::Raw { .. } => "unsound: raw cell's field",
+            Record::Checked { .. } => "unsound: checked cell's field",
         };
         self.add(row, field as u32);
     }
@@ -285,7 +290,7 @@ fn opening_faults(opening: &Opening, len: usize) -> [bool; 7] {
     [
         !(1..=32).contains(&stations.len()),
         rows.len() != stations.len(),
-        len != length(stations.len()),
+        len != store_length(stations.len()),
         Date::new(*year, *month, *day).is_none(),
         rows.iter().any(|&row| row > 1),
         stations.iter().any(|number| !(1..=99999).contains(number)),

@@ -7,6 +7,7 @@ pub mod bulletin;
 pub mod calendar;
 pub mod day;
 pub mod gate;
+pub mod layout;
 pub mod report;
 pub mod settle;
 pub mod store;

@@ -3,9 +3,12 @@
 //! The first letter of a line says what it is; a line that is none of these is passed over.
 //!
 //! ```text
-//! lend N                   a buffer of N bytes to work on from now on, none of them 0
+//! lend N stations          a buffer as long as a store of N, to work on from now on, none of its bytes 0
+//! lend N stations less M   the same with M bytes less, or `more M`
+//! lend N bytes             the same, of N bytes
 //! made SEED                the same, a sound store of the last good opening with anything in it
-//! edit AT BYTE ..          bytes set before the next call, and put back where it is refused 9
+//! edit RECORD FIELD NUMBER ..   fields set before the next call, and put back where it is refused 9
+//! edit byte AT BYTE ..     bytes, in the same way
 //! open Y M D S,.. R,..     date, stations, rows
 //! file TEXT
 //! bulletin TEXT
@@ -15,15 +18,26 @@
 //! day S
 //! ```
 //!
-//! In a text `~` stands for a line feed and `#` for eight groups.
+//! In a text `~` stands for a line feed and `#` for eight groups. A record of a store of the last good opening, and
+//! its fields, are named so:
+//!
+//! ```text
+//! header                   n list blocks length year month day zero
+//! entry S                  number row settled
+//! head S SLOT              filed iR tR dd
+//! raw S ELEMENT SLOT       state flag value       ELEMENT is one of T D P W C V R X M
+//! checked S ELEMENT SLOT   state flag value
+//! ```
 
 use crate::generate::rng::Rng;
 use crate::generate::stores::{hand_made, Edits, Opening};
 use crate::generate::{Call, Step};
+use crate::reference::layout::{store_length, Record};
+use crate::reference::store::ELEMENTS;
 
 /// What one script may ask for, so that each is quick.
 const MOST_CALLS: usize = 100;
-const LONGEST_BUFFER: u32 = 23_000;
+const LONGEST_BUFFER: usize = store_length(34);
 const LONGEST_TEXT: usize = 17_000;
 
 /// The steps of a script.
@@ -54,19 +68,18 @@ impl Reader {
     fn line(&mut self, line: &[u8]) {
         let mut parts = line.splitn(2, |&byte| byte == b' ');
         let (word, rest) = (parts.next().unwrap_or(b""), parts.next().unwrap_or(b""));
-        let mut words = rest.split(|&byte| byte == b' ').filter(|word| !word.is_empty());
+        let words = &mut rest.split(|&byte| byte == b' ').filter(|word| !word.is_empty());
         let mut next = || number(words.next().unwrap_or(b""));
         match word.first() {
-            Some(b'l') => self.lend(vec![0xa5; next().min(LONGEST_BUFFER) as usize]),
+            Some(b'l') => self.lend(vec![0xa5; buffer_length(words)]),
             Some(b'm') => {
                 if let Some(opening) = &self.opening {
                     self.lend(hand_made(&mut Rng::new(next().into()), opening));
                 }
             }
             Some(b'e') => {
-                let at = next() as usize;
-                let bytes = words.map(|word| number(word) as u8);
-                self.edits.extend((at..self.len).zip(bytes));
+                let edits = self.edits_of(words).unwrap_or_default();
+                self.edits.extend(edits.into_iter().filter(|&(at, _)| at < self.len));
             }
             Some(b'o') => {
                 let (year, month, day) = (next(), next(), next());
@@ -94,6 +107,23 @@ impl Reader {
         self.len = buffer.len();
         self.edits.clear();
         self.steps.push(Step::Lend(buffer));
+    }
+
+    /// What an `edit` line sets; nothing where a name is none.
+    fn edits_of<'a>(&self, words: &mut impl Iterator<Item = &'a [u8]>) -> Option<Edits> {
+        let kind = words.next()?;
+        if kind == b"byte" {
+            let at = number(words.next()?) as usize;
+            return Some((at..self.len).zip(words.map(|word| number(word) as u8)).collect());
+        }
+        let stations = self.opening.as_ref().map_or(&[] as &[u32], |opening| &opening.stations);
+        let record = record(stations, kind, words)?;
+        let mut edits = Edits::new();
+        while let (Some(name), Some(value)) = (words.next(), words.next()) {
+            let field = record.fields().iter().find(|field| field.name.as_bytes() == name)?;
+            edits.extend(record.edit(stations.len(), *field, signed(value)));
+        }
+        Some(edits)
     }
 
     fn open(&mut self, opening: Opening) {
@@ -125,6 +155,53 @@ impl Reader {
         let edits = std::mem::take(&mut self.edits);
         self.steps.push(if edits.is_empty() { Step::Call(call) } else { Step::Damaged { edits, call } });
     }
+}
+
+/// The length that a `lend` line asks for.
+pub fn buffer_length<'a>(words: &mut impl Iterator<Item = &'a [u8]>) -> usize {
+    let mut next = || words.next().unwrap_or(b"");
+    let n = number(next()) as usize;
+    let length = if next().starts_with(b"station") { store_length(n.min(99)) } else { n };
+    let (word, bytes) = (next(), number(next()) as usize);
+    let length = match word {
+        b"less" => length.saturating_sub(bytes),
+        b"more" => length.saturating_add(bytes),
+        _ => length,
+    };
+    length.min(LONGEST_BUFFER)
+}
+
+/// The record that an `edit` line names, in a store of these stations.
+pub fn record<'a>(
+    stations: &[u32],
+    kind: &[u8],
+    words: &mut impl Iterator<Item = &'a [u8]>,
+) -> Option<Record> {
+    if kind == b"header" {
+        return Some(Record::Header);
+    }
+    let station = number(words.next()?);
+    let index = stations.iter().position(|&other| other == station)?;
+    Some(match kind {
+        b"entry" => Record::Entry { index },
+        b"head" => Record::Head { index, slot: slot(words.next()?)? },
+        b"raw" => Record::Raw { index, element: element(words.next()?)?, slot: slot(words.next()?)? },
+        b"checked" => Record::Checked { index, element: element(words.next()?)?, slot: slot(words.next()?)? },
+        _ => return None,
+    })
+}
+
+fn element(word: &[u8]) -> Option<usize> {
+    ELEMENTS.iter().position(|&letter| word == [letter])
+}
+
+fn slot(word: &[u8]) -> Option<usize> {
+    Some(number(word) as usize).filter(|&slot| slot < 9)
+}
+
+/// A number that may have a minus before it, as the bits of a field.
+fn signed(word: &[u8]) -> u32 {
+    word.strip_prefix(b"-").map_or_else(|| number(word), |size| number(size).wrapping_neg())
 }
 
 /// A decimal number; what is none, or too large, is the largest.

@@ -1,17 +1,23 @@
 //! All of a small set each, where a generated run takes samples: every value of a code, every byte of a
 //! store, every date, every short list of groups. The store is mostly that of 2024-04-11 and station 40001.
 
-use crate::generate::stores::{Edits, Opening};
+use crate::generate::stores::{fresh, Edits, Opening};
 use crate::generate::{Call, Step};
-use crate::reference::{self, store::length};
+use crate::reference;
+use crate::reference::layout::{self, store_length, Field, Record, DD, FILED, TR};
+use crate::reference::store::{self, Cell, Head, C, D, M, P, R, T, W, X};
 
 /// Steps, one after the other.
 type Take<'a> = &'a mut dyn FnMut(Step);
 
 type Sweep = fn(Take);
 
-pub const SWEEPS: [(&str, Sweep); 17] = [
+pub const SWEEPS: [(&str, Sweep); 21] = [
     ("each byte of a store, each value", bytes_of_a_store),
+    ("each field of a store, beside where soundness turns", fields_of_a_store),
+    ("each cell's state, flag and value together", cells_of_a_store),
+    ("each date in a store", dates_of_a_store),
+    ("lengths and n", lengths),
     ("dates", dates),
     ("YY, GG, iw", headings),
     ("temperature groups", temperatures),
@@ -31,26 +37,36 @@ pub const SWEEPS: [(&str, Sweep); 17] = [
 ];
 
 const STATION: u32 = 40001;
-/// A settled mark's low byte, and the start of the heads, in a store of one station.
-const SETTLED: usize = 23;
-const HEADS: usize = 24;
 
-fn raw(slot: usize, element: usize) -> usize {
-    60 + 36 * slot + 4 * element
+/// The store's one station is settled.
+fn settled() -> Edits {
+    Record::Entry { index: 0 }.edit(1, layout::SETTLED, 1)
 }
 
-fn checked(slot: usize, element: usize) -> usize {
-    384 + 36 * slot + 4 * element
+/// A number in a slot's head.
+fn head(slot: usize, field: Field, number: u32) -> Edits {
+    Record::Head { index: 0, slot }.edit(1, field, number)
+}
+
+fn raw(slot: usize, element: usize) -> Record {
+    Record::Raw { index: 0, element, slot }
+}
+
+fn checked(slot: usize, element: usize) -> Record {
+    Record::Checked { index: 0, element, slot }
 }
 
 /// A cell that is read, or missing.
-fn cell(at: usize, value: Option<i32>) -> Edits {
-    let [high, low] = (value.unwrap_or(0) as i16).to_be_bytes();
-    vec![(at, value.is_some().into()), (at + 1, 0), (at + 2, high), (at + 3, low)]
+fn cell(record: Record, value: Option<i32>) -> Edits {
+    whole_cell(record, Cell::raw(value.map(|value| value as i16)))
+}
+
+fn whole_cell(record: Record, cell: Cell) -> Edits {
+    (record.at(1)..).zip(cell.to_bytes()).collect()
 }
 
 fn opened(date: [u32; 3], row: u16) -> Vec<u8> {
-    let mut store = vec![0; length(1)];
+    let mut store = vec![0; store_length(1)];
     let [year, month, day] = date;
     reference::open(&mut store, year, month, day, &[STATION], &[row]).expect("a good opening");
     store
@@ -62,7 +78,7 @@ fn lend(take: Take) {
 
 /// Files a text after slot 0 is made free.
 fn file_anew(take: Take, text: Vec<u8>) {
-    take(Step::Damaged { edits: vec![(HEADS, 0)], call: Call::File { text } });
+    take(Step::Damaged { edits: head(0, FILED, 0), call: Call::File { text } });
 }
 
 /// Every string of so many of these characters.
@@ -89,6 +105,106 @@ fn bytes_of_a_store(take: Take) {
         take(Step::Lend(store.clone()));
         for byte in 0..=255 {
             take(Step::Damaged { edits: vec![(at, byte)], call: Call::Day { station: STATION } });
+        }
+    }
+}
+
+/// A fresh store of two stations, of which the second is asked for.
+const TWO: usize = 2;
+const STATIONS: [u32; TWO] = [10, 20];
+const ASK_SECOND: Call = Call::Cell { station: STATIONS[1], element: 0, slot: 0 };
+
+fn two() -> Vec<u8> {
+    let mut store = vec![0; store_length(TWO)];
+    reference::open(&mut store, 2024, 2, 29, &STATIONS, &[0, 1]).expect("a good opening");
+    store
+}
+
+/// The number that a field of the store holds.
+fn number_in(store: &[u8], record: Record, field: Field) -> u32 {
+    let at = record.at(TWO) + field.at;
+    store[at..at + field.width].iter().fold(0, |number, &byte| number << 8 | u32::from(byte))
+}
+
+/// The numbers where soundness turns, the one that stands there, the stations', bytes in the wrong order, the ends of
+/// one, two and four bytes: each of these, and the numbers beside it.
+fn fields_of_a_store(take: Take) {
+    let store = two();
+    for (record, field) in Record::all(TWO).flat_map(|r| r.fields().iter().map(move |&field| (r, field))) {
+        let right = number_in(&store, record, field);
+        let swapped = right.swap_bytes() >> (32 - 8 * field.width);
+        let most = u32::MAX >> (32 - 8 * field.width);
+        let turns = [right, swapped, most, 0, 1 << 8, 1 << 15, 1 << 16, 1 << 17, 1 << 31];
+        let turns = turns.iter().chain(&STATIONS).chain(field.turns);
+        take(Step::Lend(store.clone()));
+        for turn in turns.filter(|&&turn| turn <= most) {
+            for number in [turn.wrapping_sub(1) & most, *turn, turn.wrapping_add(1) & most] {
+                take(Step::Damaged { edits: record.edit(TWO, field, number), call: ASK_SECOND });
+            }
+        }
+    }
+}
+
+fn cells_of_a_store(take: Take) {
+    let store = two();
+    let is_cell = |record: &Record| matches!(record, Record::Raw { .. } | Record::Checked { .. });
+    for record in Record::all(TWO).filter(is_cell) {
+        take(Step::Lend(store.clone()));
+        for state in [0, 1, 2, 3, 4, 255] {
+            for flag in [0, 1, 4, 5, 255] {
+                for value in [0, 1, i16::MAX, i16::MIN, -i16::MAX, -1] {
+                    let bytes = Cell { state, flag, value }.to_bytes();
+                    let edits = (record.at(TWO)..).zip(bytes).collect();
+                    take(Step::Damaged { edits, call: ASK_SECOND });
+                }
+            }
+        }
+    }
+}
+
+fn dates_of_a_store(take: Take) {
+    take(Step::Lend(two()));
+    for (year, month) in (1999..=2100).flat_map(|year| (0..=13).map(move |month| (year, month))) {
+        for day in 0..=32 {
+            let date = [(layout::YEAR, year), (layout::MONTH, month), (layout::DAY, day)];
+            let edits = date.into_iter().flat_map(|(field, n)| Record::Header.edit(TWO, field, n)).collect();
+            take(Step::Damaged { edits, call: ASK_SECOND });
+        }
+    }
+}
+
+/// All as a fresh store of n stations has it, but for its length or its n; by each call, and opened.
+fn lengths(take: Take) {
+    let calls = |n: u32| {
+        let text = b"AAXX 11061 00001 NIL=".to_vec();
+        let stations: Vec<u32> = (1..=n).collect();
+        let rows = vec![0; stations.len()];
+        [
+            Call::Cell { station: n, element: 0, slot: 0 },
+            Call::Day { station: n },
+            Call::File { text: text.clone() },
+            Call::Bulletin { text },
+            Call::Settle { station: n },
+            Call::Open(Opening { year: 2024, month: 4, day: 11, stations, rows }),
+        ]
+    };
+    for n in [0, 1, 2, 31, 32, 33, 34] {
+        let store = fresh(n);
+        let near = |length: usize| length.saturating_sub(1)..=length + 1;
+        let lengths =
+            [0, layout::HEADER, store.len(), store_length(n + 1), store_length(n.saturating_sub(1))];
+        for length in lengths.into_iter().flat_map(near) {
+            let mut buffer = store.clone();
+            buffer.resize(length, 0);
+            for call in calls(n as u32) {
+                take(Step::Lend(buffer.clone()));
+                take(Step::Call(call));
+            }
+        }
+        for other in (0..=34).chain([255, 256, 256 * n as u32, 65535]) {
+            take(Step::Lend(store.clone()));
+            let edits = Record::Header.edit(n, layout::N, other);
+            take(Step::Damaged { edits, call: Call::Day { station: 1 } });
         }
     }
 }
@@ -178,7 +294,7 @@ fn neighbours(take: Take) {
         present.into_iter().chain([None]).collect::<Vec<_>>()
     };
     lend(take);
-    for (element, middle) in [(0, 0), (0, 60), (1, 0), (2, 10000), (3, 200), (4, 4)] {
+    for (element, middle) in [(T, 0), (T, 60), (D, 0), (P, 10000), (W, 200), (C, 4)] {
         let values = around(middle);
         for a in &values {
             for v in &values {
@@ -199,16 +315,16 @@ fn internal(take: Take) {
     lend(take);
     for dd in 0..=100 {
         for value in [-1, 0, 1, 2, 750, 751] {
-            let mut edits = cell(raw(0, 3), Some(value));
-            edits.push((HEADS + 3, dd));
+            let mut edits = cell(raw(0, W), Some(value));
+            edits.extend(head(0, DD, dd));
             take(Step::Damaged { edits, call: Call::Settle { station: STATION } });
         }
     }
     for x in -60..=60 {
         for m in [-51, -50, -1, 0, 1, 49, 50] {
             for slots in [(4, 0), (0, 4), (3, 0), (4, 1)] {
-                let mut edits = cell(raw(slots.0, 7), Some(x));
-                edits.extend(cell(raw(slots.1, 8), Some(m)));
+                let mut edits = cell(raw(slots.0, X), Some(x));
+                edits.extend(cell(raw(slots.1, M), Some(m)));
                 take(Step::Damaged { edits, call: Call::Settle { station: STATION } });
             }
             lend(take);
@@ -221,11 +337,11 @@ fn rain_totals(take: Take) {
     lend(take);
     for times in strings(b"0123456789", 4) {
         for present in 0..16 {
-            let mut edits = vec![(SETTLED, 1)];
+            let mut edits = settled();
             for (i, time) in times.bytes().enumerate() {
                 let slot = 2 * i + 2;
-                edits.push((HEADS + 4 * slot + 2, time - b'0'));
-                edits.extend(cell(checked(slot, 6), (present >> i & 1 == 1).then_some(1 << (3 * i))));
+                edits.extend(head(slot, TR, (time - b'0').into()));
+                edits.extend(cell(checked(slot, R), (present >> i & 1 == 1).then_some(1 << (3 * i))));
             }
             take(Step::Damaged { edits, call: Call::Day { station: STATION } });
         }
@@ -237,9 +353,9 @@ fn dew_points(take: Take) {
     lend(take);
     for value in (-600..=600).chain([-32767, 32767]) {
         for other in [value, 0] {
-            let mut edits = vec![(SETTLED, 1)];
-            edits.extend((0..9).flat_map(|slot| cell(checked(slot, 1), Some(value))));
-            edits.extend(cell(checked(7, 1), Some(other)));
+            let mut edits = settled();
+            edits.extend((0..9).flat_map(|slot| cell(checked(slot, D), Some(value))));
+            edits.extend(cell(checked(7, D), Some(other)));
             take(Step::Damaged { edits, call: Call::Day { station: STATION } });
         }
     }
@@ -251,7 +367,7 @@ fn day_lines(take: Take) {
     lend(take);
     let mut day = |changes: Edits| {
         for (middle, last) in [(0, 4), (2, 2)] {
-            let mut edits = vec![(SETTLED, 1), (HEADS + 4 * 4 + 2, middle), (HEADS + 4 * 8 + 2, last)];
+            let mut edits = [settled(), head(4, TR, middle), head(8, TR, last)].concat();
             for (slot, element) in (0..81).map(|i| (i / 9, i % 9)) {
                 let value = 20 * element + (11 * slot + 5 * element) % 37 - 28;
                 edits.extend(cell(checked(slot as usize, element as usize), Some(value)));
@@ -260,35 +376,30 @@ fn day_lines(take: Take) {
             take(Step::Damaged { edits, call: Call::Day { station: STATION } });
         }
     };
-    let with_state = |mut changes: Edits, state: u8| {
-        changes.iter_mut().step_by(4).for_each(|change| change.1 = state);
-        changes
-    };
-    for at in (0..81).map(|i| checked(i / 9, i % 9)) {
-        day(cell(at, None));
+    let all = || (0..81).map(|i| checked(i / 9, i % 9));
+    for record in all() {
+        day(cell(record, None));
         for (state, value) in (1..4).flat_map(|s| [-32767, -501, -28, 0, 8, 501, 32767].map(|v| (s, v))) {
-            day(with_state(cell(at, Some(value)), state));
+            day(whole_cell(record, Cell { state, flag: 0, value }));
         }
     }
     for (a, b) in (0..81).map(|i| (i / 9, i % 9)) {
         for value in [-100, 100] {
-            day([cell(checked(a, 0), Some(value)), cell(checked(b, 0), Some(value))].concat());
+            day([cell(checked(a, T), Some(value)), cell(checked(b, T), Some(value))].concat());
         }
     }
-    day((0..81).flat_map(|i| cell(checked(i / 9, i % 9), None)).collect());
+    day(all().flat_map(|record| cell(record, None)).collect());
     for (state, value) in (1..4).flat_map(|s| [-32767, -1, 0, 1, 400, 32767].map(|v| (s, v))) {
-        day(with_state((0..81).flat_map(|i| cell(checked(i / 9, i % 9), Some(value))).collect(), state));
+        day(all().flat_map(|record| whole_cell(record, Cell { state, flag: 0, value })).collect());
     }
 }
 
 /// Each element and slot with each state and flag, and each value somewhere.
 fn cells(take: Take) {
     lend(take);
-    let mut look = |element: usize, slot: usize, state: u8, flag: u8, value: i32| {
-        let mut edits = cell(checked(slot, element), Some(value));
-        edits[0].1 = state;
-        edits[1].1 = flag;
-        edits.push((SETTLED, 1));
+    let mut look = |element: usize, slot: usize, state: u8, flag: u8, value: i16| {
+        let mut edits = whole_cell(checked(slot, element), Cell { state, flag, value });
+        edits.extend(settled());
         let (element, slot) = (element as u32, slot as u32);
         take(Step::Damaged { edits, call: Call::Cell { station: STATION, element, slot } });
     };
@@ -297,26 +408,27 @@ fn cells(take: Take) {
             for state in 0..5 {
                 for flag in 0..6 {
                     look(element, slot, state, flag, 0);
-                    look(element, slot, state, flag, -100 - (9 * slot + element) as i32);
+                    look(element, slot, state, flag, -100 - (9 * slot + element) as i16);
                 }
             }
         }
     }
-    for value in -32768..=32767 {
-        look(value as u32 as usize % 9, value as u32 as usize / 9 % 9, 1, 0, value);
+    for value in i16::MIN..=i16::MAX {
+        let place = value as u16 as usize;
+        look(place % 9, place / 9 % 9, 1, 0, value);
     }
 }
 
 /// A station's number is looked for in the list alone: those that any four bytes of the store make are absent.
 fn other_numbers(take: Take) {
     let mut store = opened([2024, 4, 11], 0);
-    for (at, byte) in store[HEADS..].iter_mut().enumerate() {
-        // Heads and cells that hold numbers beyond the station's, and are sound.
-        *byte = [0, 1, 2, 3][at % 4];
-    }
-    for at in (raw(0, 0)..store.len()).step_by(4) {
-        store[at..at + 4].copy_from_slice(&[1, 0, 1, at as u8]);
-    }
+    // Heads and cells that hold numbers beyond the station's, and are sound.
+    let block = store::block_mut(&mut store, 0);
+    (0..9).for_each(|slot| store::put_head(block, slot, Head { filed: 0, ir: 1, tr: 2, dd: 3 }));
+    let cell = |slot: usize, e: usize| Cell { state: 1, flag: 0, value: 256 + (9 * slot + e) as i16 };
+    let sheet = std::array::from_fn(|slot| std::array::from_fn(|element| cell(slot, element)));
+    store::put_raw(block, &sheet);
+    store::put_checked(block, &sheet);
     take(Step::Lend(store.clone()));
     for number in store.windows(4).map(|four| u32::from_be_bytes([four[0], four[1], four[2], four[3]])) {
         take(Step::Call(Call::Settle { station: number }));
@@ -365,7 +477,7 @@ fn edits_of_texts(take: Take) {
         lend(take);
         let mut make = |text: Vec<u8>| {
             let call = if filed { Call::File { text } } else { Call::Bulletin { text } };
-            take(Step::Damaged { edits: vec![(HEADS, 0)], call });
+            take(Step::Damaged { edits: head(0, FILED, 0), call });
         };
         for at in 0..=text.len() {
             let (before, after) = text.split_at(at);

@@ -4,10 +4,11 @@ use reading::calls::Reference;
 use reading::dayline::DayLines;
 use reading::generate::{episode, Step};
 use reading::reference::calendar::Date;
+use reading::reference::layout::{self, block_at, entry_at, store_length, Field, Record};
 use reading::reference::{self, report, settle, store, values, vapour, Cell, Mean, Tally};
 
 fn opened(stations: &[u32]) -> Vec<u8> {
-    let mut store = vec![0xaa; store::length(stations.len())];
+    let mut store = vec![0xaa; store_length(stations.len())];
     reference::open(&mut store, 2024, 4, 11, stations, &vec![0; stations.len()]).unwrap();
     store
 }
@@ -129,6 +130,67 @@ fn the_printed_day() {
         input.chunks(size).for_each(|piece| lines.feed(piece));
         assert_eq!(lines.finish(), "40001 - 0 0 7 0 0 74\nrefused 0\n");
     }
+}
+
+/// "The store": for each field what it may hold, and what makes the store unsound.
+#[test]
+fn what_is_sound() {
+    let fresh = opened(&[10, 20]);
+    let sound_with = |record: Record, numbers: &[(Field, i32)]| {
+        let mut store = fresh.clone();
+        for &(field, number) in numbers {
+            record.edit(2, field, number as u32).into_iter().for_each(|(at, byte)| store[at] = byte);
+        }
+        store::sound(&store)
+    };
+    let check = |record: Record, field: Field, sound: &[i32], unsound: &[i32]| {
+        for (numbers, verdict) in [(sound, true), (unsound, false)] {
+            for &number in numbers {
+                assert_eq!(
+                    sound_with(record, &[(field, number)]),
+                    verdict,
+                    "{record:?} {} {number}",
+                    field.name
+                );
+            }
+        }
+    };
+    let [list, blocks, block] = [entry_at(0), block_at(2, 0), layout::BLOCK].map(|number| number as i32);
+    check(Record::Header, layout::N, &[2], &[0, 1, 3, 32, 33, 512]);
+    check(Record::Header, layout::LIST_OFFSET, &[list], &[0, list - 1, list + 1, list << 8]);
+    check(Record::Header, layout::BLOCK_OFFSET, &[blocks], &[0, blocks - 1, blocks + 1, blocks << 8]);
+    check(Record::Header, layout::BLOCK_LENGTH, &[block], &[0, block - 1, block + 1]);
+    check(Record::Header, layout::YEAR, &[2000, 2024, 2099], &[0, 1999, 2100, 65535]);
+    check(Record::Header, layout::MONTH, &[1, 4, 12], &[0, 13, 256 + 4]);
+    check(Record::Header, layout::DAY, &[1, 30], &[0, 31, 256 + 1]);
+    check(Record::Header, layout::ZERO, &[0], &[1, 256, 65535]);
+    check(Record::Entry { index: 0 }, layout::NUMBER, &[1, 19], &[0, 20, 21, 65536 + 1]);
+    check(Record::Entry { index: 1 }, layout::NUMBER, &[11, 65535, 65536, 99999], &[0, 9, 10, 100000, -1]);
+    for index in [0, 1] {
+        check(Record::Entry { index }, layout::ROW, &[0, 1], &[2, 256, 65535]);
+        check(Record::Entry { index }, layout::SETTLED, &[0, 1], &[2, 256, 65535]);
+        for slot in [0, 8] {
+            let head = Record::Head { index, slot };
+            check(head, layout::FILED, &[0, 1], &[2, 255]);
+            check(head, layout::IR, &[0, 4, 5], &[6, 255]);
+            check(head, layout::TR, &[0, 1, 9], &[10, 255]);
+            check(head, layout::DD, &[0, 1, 36, 99, 100], &[37, 98, 101, 255]);
+            let (raw, checked) =
+                (Record::Raw { index, element: slot, slot }, Record::Checked { index, element: slot, slot });
+            for (cell, states, flags) in [(raw, 0..=1, 0..=0), (checked, 0..=3, 0..=4)] {
+                for (state, flag) in (0..=4).flat_map(|state| [0, 1, 4, 5].map(|flag| (state, flag))) {
+                    for value in [0, 1, -1, 32767, -32767, -32768] {
+                        let numbers = [(layout::STATE, state), (layout::FLAG, flag), (layout::VALUE, value)];
+                        let sound = states.contains(&state) && flags.contains(&flag);
+                        let sound = sound && value != -32768 && (state != 0 || value == 0);
+                        assert_eq!(sound_with(cell, &numbers), sound, "{cell:?} {state} {flag} {value}");
+                    }
+                }
+            }
+        }
+    }
+    assert!((0..fresh.len()).all(|length| !store::sound(&fresh[..length])));
+    assert!(!store::sound(&[&fresh[..], &[0]].concat()));
 }
 
 #[test]

@@ -9,10 +9,10 @@ use Rattle.test_engine.proofs.open.Tie as tie
 use Rattle.test_engine.proofs.open.Reads as reads
 use Rattle.test_engine.proofs.open.Lts as lts
 use Rattle.engine.proofs.open.Reads as open-reads
-use Rattle.test_cases.proofs.words.fields.Reads as fields-reads
-use Rattle.test_cases.proofs.words.number_at.Reads as number-at-reads
-use Rattle.test_cases.proofs.words.rows_of.Reads as rows-of-reads
-use Rattle.test_cases.proofs.words.stations_of.Reads as stations-of-reads
+use Rattle.test_lines.proofs.words.number_of.Reads as number-of-reads
+use Rattle.test_lines.proofs.words.pairs.Reads as pairs-reads
+use Rattle.test_lines.proofs.words.rows_of.Reads as rows-of-reads
+use Rattle.test_lines.proofs.words.stations_of.Reads as stations-of-reads
 use Rattle.test_engine.proofs.said.Reads as said-reads
 
 stations-of-requires : tie.Need-stations-of-requires
@@ -21,20 +21,20 @@ stations-of-requires c κs = search needs
 rows-of-requires : tie.Need-rows-of-requires
 rows-of-requires c κs = search needs
 
-fields-requires : tie.Need-fields-requires
-fields-requires c κs = search needs
+pairs-requires : tie.Need-pairs-requires
+pairs-requires c κs = search needs
 
-fields-requires-2 : tie.Need-fields-requires-2
-fields-requires-2 c κs = search needs
+pairs-requires-2 : tie.Need-pairs-requires-2
+pairs-requires-2 c κs = search needs
 
-number-at-requires : tie.Need-number-at-requires
-number-at-requires c κs = search needs
+number-of-requires : tie.Need-number-of-requires
+number-of-requires c κs = search needs
 
-number-at-requires-2 : tie.Need-number-at-requires-2
-number-at-requires-2 c κs = search needs
+number-of-requires-2 : tie.Need-number-of-requires-2
+number-of-requires-2 c κs = search needs
 
-number-at-requires-3 : tie.Need-number-at-requires-3
-number-at-requires-3 c κs = search needs
+number-of-requires-3 : tie.Need-number-of-requires-3
+number-of-requires-3 c κs = search needs
 
 array-share-prefix-stations : tie.Need-array-share-prefix-stations
 array-share-prefix-stations c = search needs
@@ -66,11 +66,11 @@ open-spec =
     (tie.spec
     stations-of-requires
     rows-of-requires
-    fields-requires
-    fields-requires-2
-    number-at-requires
-    number-at-requires-2
-    number-at-requires-3
+    pairs-requires
+    pairs-requires-2
+    number-of-requires
+    number-of-requires-2
+    number-of-requires-3
     array-share-prefix-stations
     slice-aggregate-open
     array-share-prefix-rows

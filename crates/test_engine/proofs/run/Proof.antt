@@ -7,17 +7,16 @@ use Rattle.test_engine.proofs.run.Statement.{statement}
 use Rattle.test_engine.proofs.run.Tie as tie
 use Rattle.test_engine.proofs.run.Reads as reads
 use Rattle.test_engine.proofs.run.Lts as lts
-use Rattle.test_cases.proofs.words.find.Reads as find-reads
-use Rattle.test_cases.proofs.words.lend.Reads as lend-reads
-use Rattle.test_cases.proofs.words.letter_of.Reads as letter-of-reads
 use Rattle.test_cases.proofs.print.text.Reads as text-reads
 use Rattle.test_engine.proofs.step.Reads as step-reads
+use Rattle.test_lines.proofs.fields.lend.Reads as lend-reads
+use Rattle.test_lines.proofs.words.find.Reads as find-reads
 
 abbrev Inv-loop : tie.InvT-loop
-Inv-loop script buffer₀ lent₀ at₀ t9 buffer lent at = Unit {0}
+Inv-loop script buffer₀ lent₀ at₀ t8 buffer lent at = Unit {0}
 
 abbrev μ-loop : tie.MeasureT-loop
-μ-loop script buffer₀ lent₀ at₀ t9 buffer lent at = length script - at
+μ-loop script buffer₀ lent₀ at₀ t8 buffer lent at = length script - at
 
 loop-holds : tie.Need-loop-holds Inv-loop μ-loop
 loop-holds c = search needs
@@ -36,9 +35,6 @@ part-l-end c = search needs
 
 text-requires : tie.Need-text-requires Inv-loop μ-loop
 text-requires c κs = search needs
-
-letter-of-requires : tie.Need-letter-of-requires Inv-loop μ-loop
-letter-of-requires c κs = search needs
 
 lend-requires : tie.Need-lend-requires Inv-loop μ-loop
 lend-requires c κs = search needs
@@ -76,7 +72,6 @@ run-spec =
     part-l-start
     part-l-end
     text-requires
-    letter-of-requires
     lend-requires
     step-requires
     slice-aggregate-text

@@ -3,6 +3,7 @@
 //! bench [TURNS]
 
 use reading::calls::{Calls, Engine, Reference};
+use reading::reference::layout::store_length;
 use std::hint::black_box;
 use std::time::Instant;
 
@@ -132,7 +133,7 @@ fn works() -> Vec<Work> {
         .collect();
     let stations: Vec<u32> = (0..STATIONS).map(station).collect();
     let [year, month, day] = DATE;
-    let mut opened = vec![0; 16 + 692 * STATIONS as usize];
+    let mut opened = vec![0; store_length(STATIONS as usize)];
     assert_eq!(Reference.open(&mut opened, year, month, day, &stations, &[0; STATIONS as usize]), 0);
     let mut filed = opened.clone();
     assert!(reports.iter().all(|text| Reference.file(&mut filed, text) == 0));

@@ -1,11 +1,13 @@
 //! The transcript that the program `test_engine` must print, made by the reference: the lines of standard input, one call each on one
 //! buffer, with each call's answer and with what it did to the buffer. `crates/test_engine/src/main.rt` says what the lines are.
 
+use reading::reference::layout::{stations_for, store_length, Field, Record, NUMBER};
 use reading::reference::{self, DayLine, Mean, Refusal};
+use reading::script::{buffer_length, record};
 use std::io::{self, Read};
 
 /// Room for one station more than a store may have.
-const SIZE: usize = 16 + 692 * 33;
+const SIZE: usize = store_length(33);
 
 fn main() -> io::Result<()> {
     let mut script = String::new();
@@ -13,12 +15,11 @@ fn main() -> io::Result<()> {
     let mut buffer = vec![7; SIZE];
     let mut lent = 0;
     for line in script.lines() {
-        let word = line.split(' ').next().unwrap_or("");
-        let arguments = line.get(8..).unwrap_or("");
+        let (word, arguments) = line.split_once(' ').unwrap_or((line, ""));
         match word {
-            "" | "#" => println!("{line}"),
+            "#" => println!("{line}"),
             "lend" => {
-                lent = numbers(arguments)[0] as usize;
+                lent = buffer_length(&mut arguments.as_bytes().split(|&byte| byte == b' '));
                 println!("{line}");
             }
             _ => {
@@ -56,12 +57,33 @@ fn call(store: &mut [u8], word: &str, arguments: &str) -> String {
         }
         "day" => reference::day(store, numbers(arguments)[0]).map_or_else(refused, |line| day(&line)),
         "put" => {
-            let n = numbers(arguments);
-            store[n[0] as usize] = n[1] as u8;
+            put(store, arguments);
             String::new()
         }
         _ => panic!("no such call: {word}"),
     }
+}
+
+/// Changes a field of a buffer as long as a store, by its name: to a number, or by `more` or `less` from the one there.
+fn put(store: &mut [u8], arguments: &str) {
+    let n = stations_for(store.len()).expect("a store's length");
+    let held = |store: &[u8], record: Record, field: Field| {
+        let at = record.at(n) + field.at;
+        store[at..at + field.width].iter().fold(0, |number: u32, &byte| number << 8 | u32::from(byte))
+    };
+    let stations: Vec<u32> = (0..n).map(|index| held(store, Record::Entry { index }, NUMBER)).collect();
+    let words = &mut arguments.split(' ').map(str::as_bytes);
+    let record = words.next().and_then(|kind| record(&stations, kind, words)).expect("a record");
+    let name = words.next().expect("a field's name");
+    let field = *record.fields().iter().find(|field| field.name.as_bytes() == name).expect("a field");
+    let words: Vec<&str> = words.map(|word| std::str::from_utf8(word).unwrap()).collect();
+    let number = match words[..] {
+        ["more", by] => held(store, record, field) + by.parse::<u32>().expect("a number"),
+        ["less", by] => held(store, record, field) - by.parse::<u32>().expect("a number"),
+        [number] => number.parse::<i64>().expect("a number") as u32,
+        _ => panic!("no number: {arguments}"),
+    };
+    record.edit(n, field, number).into_iter().for_each(|(at, byte)| store[at] = byte);
 }
 
 fn refused(refusal: Refusal) -> String {

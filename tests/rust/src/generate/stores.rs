@@ -2,7 +2,12 @@
 
 use super::rng::Rng;
 use super::texts::{PRESSURES, TEMPERATURES};
-use crate::reference::{self, calendar::Date, store::can_open, store::length};
+use crate::reference;
+use crate::reference::calendar::Date;
+pub use crate::reference::layout::Edits;
+use crate::reference::layout::{block_at, entry_at, store_length, Record};
+use crate::reference::layout::{BLOCK, ENTRY, HEADER, HEADER_FIELDS, N, NUMBER, RAW, STATE, STATION, VALUE};
+use crate::reference::store::{self, can_open, Cell, Head, Sheet};
 
 /// The arguments of an open call but its buffer.
 #[derive(Clone, Debug)]
@@ -48,7 +53,7 @@ impl Opening {
 
     /// A buffer of the right length can be opened so.
     pub fn is_good(&self) -> bool {
-        self.has_slots() && can_open(length(self.stations.len()), &self.stations, &self.rows)
+        self.has_slots() && can_open(store_length(self.stations.len()), &self.stations, &self.rows)
     }
 
     /// The date is one that has slots.
@@ -77,13 +82,13 @@ impl Opening {
             11 => {
                 let n = rng.pick(&[0, 33]);
                 self.resize(rng, n);
-                *len = length(self.stations.len());
+                *len = store_length(self.stations.len());
             }
             12 => self.resize(rng, at),
             _ => {
                 self.stations.push(99999);
                 self.rows.push(1);
-                *len = length(self.stations.len());
+                *len = store_length(self.stations.len());
             }
         }
     }
@@ -109,9 +114,9 @@ fn any_date(rng: &mut Rng) -> (u32, u32, u32) {
 fn any_length(rng: &mut Rng, len: usize) -> usize {
     match rng.below(6) {
         0 => 0,
-        1 => rng.below(40),
-        2 => len + 692,
-        3 => len - 692,
+        1 => rng.below(HEADER + ENTRY + 16),
+        2 => len + STATION,
+        3 => len - STATION,
         4 => len + 1 + rng.below(8),
         _ => len - 1 - rng.below(8),
     }
@@ -136,7 +141,7 @@ fn good_stations(rng: &mut Rng, n: usize) -> Vec<u32> {
 }
 
 fn opened(opening: &Opening) -> Vec<u8> {
-    let mut store = vec![0; length(opening.stations.len())];
+    let mut store = vec![0; store_length(opening.stations.len())];
     let Opening { year, month, day, stations, rows } = opening;
     reference::open(&mut store, *year, *month, *day, stations, rows).expect("a good opening");
     store
@@ -145,37 +150,36 @@ fn opened(opening: &Opening) -> Vec<u8> {
 /// A sound buffer with anything in its heads and cells.
 pub fn hand_made(rng: &mut Rng, opening: &Opening) -> Vec<u8> {
     let mut store = opened(opening);
-    let n = opening.stations.len();
-    let (entries, blocks) = store[16..].split_at_mut(8 * n);
-    for entry in entries.chunks_exact_mut(8) {
-        entry[7] = rng.chance(80).into();
+    for index in 0..opening.stations.len() {
+        store::set_settled(&mut store, index, rng.chance(80).into());
     }
-    for block in blocks.chunks_exact_mut(684) {
-        let (heads, cells) = block.split_at_mut(36);
-        for head in heads.chunks_exact_mut(4) {
-            head.copy_from_slice(&any_head(rng));
+    for index in 0..opening.stations.len() {
+        let block = store::block_mut(&mut store, index);
+        for slot in 0..9 {
+            store::put_head(block, slot, any_head(rng));
         }
         // So many in a hundred are missing or mended, in all of the block.
         let missing = rng.pick(&[0, 0, 1, 5, 30]);
         let mended = rng.pick(&[0, 1, 5, 50]);
-        let (raw, checked) = cells.split_at_mut(324);
-        fill_cells(rng, raw, missing, 0);
-        fill_cells(rng, checked, missing, mended);
+        store::put_raw(block, &any_sheet(rng, missing, 0));
+        let mut checked = any_sheet(rng, missing, mended);
         if rng.chance(40) {
-            one_dew_point(rng, checked);
+            one_dew_point(rng, &mut checked);
         }
+        store::put_checked(block, &checked);
     }
     store
 }
 
-fn any_head(rng: &mut Rng) -> [u8; 4] {
+fn any_head(rng: &mut Rng) -> Head {
     let tr = if rng.chance(80) { rng.pick(&[1, 1, 2, 4]) } else { rng.below(10) as u8 };
     let dd = if rng.chance(30) { rng.pick(&[0, 99, 100]) } else { rng.below(37) as u8 };
-    [rng.below(2) as u8, rng.below(6) as u8, tr, dd]
+    Head { filed: rng.below(2) as u8, ir: rng.below(6) as u8, tr, dd }
 }
 
 /// 81 cells; flags and states above 1 only where cells may be mended.
-fn fill_cells(rng: &mut Rng, cells: &mut [u8], missing: usize, mended: usize) {
+fn any_sheet(rng: &mut Rng, missing: usize, mended: usize) -> Sheet {
+    let mut sheet = [[Cell::MISSING; 9]; 9];
     for element in 0..9 {
         let column = any_column(rng, element);
         for (slot, value) in column.into_iter().enumerate() {
@@ -186,11 +190,10 @@ fn fill_cells(rng: &mut Rng, cells: &mut [u8], missing: usize, mended: usize) {
             };
             let flag = if mended == 0 { 0 } else { rng.pick(&[0, 0, 0, 1, 2, 3, 4]) };
             let value = if state == 0 { 0 } else { value as i16 };
-            let at = 36 * slot + 4 * element;
-            cells[at..at + 2].copy_from_slice(&[state, flag]);
-            cells[at + 2..at + 4].copy_from_slice(&value.to_be_bytes());
+            sheet[slot][element] = Cell { state, flag, value };
         }
     }
+    sheet
 }
 
 /// The limits of the range step, by element.
@@ -236,57 +239,60 @@ fn any_value(rng: &mut Rng) -> i32 {
 }
 
 /// The same D in all slots, so that the mean of vapour pressure is one entry of the table.
-fn one_dew_point(rng: &mut Rng, checked: &mut [u8]) {
+fn one_dew_point(rng: &mut Rng, checked: &mut Sheet) {
     let value = rng.between(-502, 502) as i16;
-    for slot in 0..9 {
-        let at = 36 * slot + 4;
-        checked[at] = checked[at].max(1);
-        checked[at + 2..at + 4].copy_from_slice(&value.to_be_bytes());
+    for cells in checked {
+        let state = cells[store::D].state.max(store::READ);
+        cells[store::D] = Cell { state, value, ..cells[store::D] };
     }
 }
 
 // ---- Damage ----
-
-/// Bytes and where to put them.
-pub type Edits = Vec<(usize, u8)>;
 
 /// A change of a buffer of n stations: mostly one byte, at times a whole field.
 pub fn any_edits(rng: &mut Rng, n: usize) -> Edits {
     if !rng.chance(30) {
         return vec![(any_place(rng, n), any_byte(rng))];
     }
-    let field = |at: usize, bytes: &[u8]| bytes.iter().enumerate().map(|(i, &byte)| (at + i, byte)).collect();
-    let entry = 16 + 8 * rng.below(n);
-    let cell = 16 + 8 * n + 684 * rng.below(n) + 36 + 4 * rng.below(162);
+    let entry = Record::Entry { index: rng.below(n) };
+    let cell = any_cell(rng, n);
     match rng.below(5) {
-        0 => {
-            let number: u32 = rng.pick(&[0, 1, 99999, 100000, 1 << 16, 1 << 17, u32::MAX]);
-            field(entry, &number.to_be_bytes())
-        }
+        0 => entry.edit(n, NUMBER, rng.pick(&[0, 1, 99999, 100000, 1 << 16, 1 << 17, u32::MAX])),
         1 => {
-            let number: u16 = rng.pick(&[0, 1, 2, 12, 13, 28, 29, 30, 31, 32, 33, 1999, 2000, 2099, 2100]);
-            field(2 * rng.below(8), &number.to_be_bytes())
+            let number = rng.pick(&[0, 1, 2, 12, 13, 28, 29, 30, 31, 32, 33, 1999, 2000, 2099, 2100]);
+            Record::Header.edit(n, rng.pick(HEADER_FIELDS), number)
         }
         _ => {
-            let value: i16 = rng.pick(&[-32768, -32768, -32767, 0, 1]);
-            let [high, low] = value.to_be_bytes();
-            let mut edits: Edits = field(cell + 2, &[high, low]);
+            let value: i32 = rng.pick(&[-32768, -32768, -32767, 0, 1]);
+            let mut edits = cell.edit(n, VALUE, value as u32);
             if rng.chance(70) {
-                edits.push((cell, 1));
+                edits.extend(cell.edit(n, STATE, 1));
             }
             edits
         }
     }
 }
 
+/// A raw or checked cell.
+fn any_cell(rng: &mut Rng, n: usize) -> Record {
+    let index = rng.below(n);
+    let cell = rng.below(2 * 81);
+    let (element, slot) = (cell % 9, cell / 9 % 9);
+    if cell < 81 {
+        Record::Raw { index, element, slot }
+    } else {
+        Record::Checked { index, element, slot }
+    }
+}
+
 /// A place in a buffer of n stations: header, entries, heads and cells alike.
 fn any_place(rng: &mut Rng, n: usize) -> usize {
-    let block = 16 + 8 * n + 684 * rng.below(n);
+    let block = block_at(n, rng.below(n));
     match rng.below(5) {
-        0 => rng.below(16),
-        1 => 16 + rng.below(8 * n),
-        2 => block + rng.below(36),
-        _ => block + 36 + rng.below(648),
+        0 => rng.below(HEADER),
+        1 => entry_at(0) + rng.below(ENTRY * n),
+        2 => block + rng.below(RAW),
+        _ => block + RAW + rng.below(BLOCK - RAW),
     }
 }
 
@@ -303,11 +309,15 @@ pub fn wrong_length(rng: &mut Rng, opening: &Opening) -> Vec<u8> {
     let mut store = if rng.chance(50) { opened(opening) } else { hand_made(rng, opening) };
     match rng.below(8) {
         0 => store.clear(),
-        1 => store.truncate(rng.below(18)),
+        1 => store.truncate(rng.below(HEADER + 2)),
         2 => store.truncate(any_length(rng, store.len()).min(store.len())),
-        3 => store.resize(store.len() + 1 + rng.below(700), 0),
-        4 => store.resize(store.len() + 692, 0),
-        5 => store[1] = store[1].wrapping_add(rng.pick(&[1, 255])),
+        3 => store.resize(store.len() + 1 + rng.below(STATION + 8), 0),
+        4 => store.resize(store.len() + STATION, 0),
+        5 => {
+            let n = opening.stations.len();
+            let other = rng.pick(&[n + 1, n - 1]) as u32;
+            Record::Header.edit(n, N, other).into_iter().for_each(|(at, byte)| store[at] = byte);
+        }
         6 => store = too_many(rng),
         _ => store = rng.bytes(store.len()),
     }
@@ -316,19 +326,13 @@ pub fn wrong_length(rng: &mut Rng, opening: &Opening) -> Vec<u8> {
 
 /// All as it should be, but for 0 or 33 stations.
 fn too_many(rng: &mut Rng) -> Vec<u8> {
-    let n: u16 = rng.pick(&[0, 33]);
-    let mut store = vec![0; length(n.into())];
-    for (bytes, number) in store.chunks_exact_mut(2).zip([n, 16, 16 + 8 * n, 684, 2024, 4, 11, 0]) {
-        bytes.copy_from_slice(&number.to_be_bytes());
-    }
-    let (entries, blocks) = store[16..].split_at_mut(8 * usize::from(n));
-    for (entry, number) in entries.chunks_exact_mut(8).zip(1..) {
-        entry[3] = number;
-    }
-    for block in blocks.chunks_exact_mut(684) {
-        for head in block[..36].chunks_exact_mut(4) {
-            head.copy_from_slice(&[0, 5, 0, 100]);
-        }
-    }
+    fresh(rng.pick(&[0, 33]))
+}
+
+/// The bytes of a fresh store of n stations, also where a store may not have so many.
+pub fn fresh(n: usize) -> Vec<u8> {
+    let mut store = vec![0; store_length(n)];
+    let stations: Vec<u32> = (1..).take(n).collect();
+    store::write_fresh(&mut store, Date { year: 2024, month: 4, day: 11 }, &stations, &vec![0; n]);
     store
 }

@@ -2,7 +2,7 @@
 
 use super::rng::Rng;
 use super::stores::Opening;
-use crate::reference::{calendar::Date, store::length};
+use crate::reference::{calendar::Date, layout::store_length};
 
 /// Limits of the range step, and the ends of codes.
 pub const TEMPERATURES: [i32; 18] =
@@ -525,7 +525,7 @@ pub fn pad_bulletin(rng: &mut Rng, mut text: Vec<u8>) -> Vec<u8> {
 pub fn first_line(rng: &mut Rng, opening: &Opening) -> Vec<u8> {
     let mut opening = opening.clone();
     if rng.chance(10) {
-        opening.spoil(rng, &mut length(1));
+        opening.spoil(rng, &mut store_length(1));
     }
     let Opening { year, month, day, stations, rows } = opening;
     let pairs = stations.iter().zip(rows).flat_map(|(&station, row)| [station, row.into()]);

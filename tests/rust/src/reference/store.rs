@@ -1,14 +1,11 @@
-//! "The store": its layout, soundness, and a fresh one.
+//! "The store": soundness, a fresh one, and its parts read and written. Where they lie is in `layout`.
 
 use super::calendar::Date;
 use super::gate::Refusal;
-
-const HEADER: usize = 16;
-const ENTRY: usize = 8;
-const BLOCK: usize = 684;
-/// Within a block: nine slot heads, 81 raw cells, 81 checked cells, all of four bytes.
-const RAW: usize = 36;
-const CHECKED: usize = 36 + 324;
+use super::layout::{
+    block_at, checked_at, entry_at, head_at, raw_at, store_length, BLOCK, BLOCK_LENGTH, BLOCK_OFFSET, CELL,
+    CHECKED, DAY, ENTRY, HEAD, HEADER, LIST_OFFSET, MONTH, N, NUMBER, RAW, ROW, SETTLED, YEAR, ZERO,
+};
 
 /// Elements, in the order of a slot's cells.
 pub const T: usize = 0;
@@ -20,6 +17,9 @@ pub const V: usize = 5;
 pub const R: usize = 6;
 pub const X: usize = 7;
 pub const M: usize = 8;
+
+/// Their letters.
+pub const ELEMENTS: &[u8; 9] = b"TDPWCVRXM";
 
 /// States of a cell.
 pub const MISSING: u8 = 0;
@@ -47,11 +47,11 @@ impl Cell {
         (self.state != MISSING).then_some(self.value.into())
     }
 
-    fn from_bytes(b: [u8; 4]) -> Cell {
+    fn from_bytes(b: [u8; CELL]) -> Cell {
         Cell { state: b[0], flag: b[1], value: i16::from_be_bytes([b[2], b[3]]) }
     }
 
-    fn to_bytes(self) -> [u8; 4] {
+    pub fn to_bytes(self) -> [u8; CELL] {
         let value = self.value.to_be_bytes();
         [self.state, self.flag, value[0], value[1]]
     }
@@ -69,11 +69,11 @@ pub struct Head {
 impl Head {
     const UNFILED: Head = Head { filed: 0, ir: 5, tr: 0, dd: 100 };
 
-    fn from_bytes(b: [u8; 4]) -> Head {
+    fn from_bytes(b: [u8; HEAD]) -> Head {
         Head { filed: b[0], ir: b[1], tr: b[2], dd: b[3] }
     }
 
-    fn to_bytes(self) -> [u8; 4] {
+    pub fn to_bytes(self) -> [u8; HEAD] {
         [self.filed, self.ir, self.tr, self.dd]
     }
 }
@@ -89,13 +89,12 @@ fn u32_at(bytes: &[u8], at: usize) -> u32 {
     u32::from_be_bytes([bytes[at], bytes[at + 1], bytes[at + 2], bytes[at + 3]])
 }
 
-fn four(bytes: &[u8], at: usize) -> [u8; 4] {
-    [bytes[at], bytes[at + 1], bytes[at + 2], bytes[at + 3]]
+fn put_u16(bytes: &mut [u8], at: usize, number: u16) {
+    bytes[at..at + 2].copy_from_slice(&number.to_be_bytes());
 }
 
-/// The length of a store of n stations: 16 + 692n.
-pub fn length(n: usize) -> usize {
-    HEADER + (ENTRY + BLOCK) * n
+fn four(bytes: &[u8], at: usize) -> [u8; 4] {
+    [bytes[at], bytes[at + 1], bytes[at + 2], bytes[at + 3]]
 }
 
 // ---- Soundness ----
@@ -113,8 +112,8 @@ pub fn sound(store: &[u8]) -> bool {
     if store.len() < HEADER {
         return false;
     }
-    let n = u16_at(store, 0) as usize;
-    if !(1..=32).contains(&n) || store.len() != length(n) {
+    let n = stations(store);
+    if !(1..=32).contains(&n) || store.len() != store_length(n) {
         return false;
     }
     let (entries, blocks) = store[HEADER..].split_at(ENTRY * n);
@@ -122,28 +121,28 @@ pub fn sound(store: &[u8]) -> bool {
 }
 
 fn sound_header(store: &[u8], n: usize) -> bool {
-    let date = Date::new(u16_at(store, 8).into(), u16_at(store, 10).into(), u16_at(store, 12).into());
-    u16_at(store, 2) as usize == HEADER
-        && u16_at(store, 4) as usize == HEADER + ENTRY * n
-        && u16_at(store, 6) as usize == BLOCK
-        && date.is_some()
-        && u16_at(store, 14) == 0
+    let [year, month, day] = [YEAR, MONTH, DAY].map(|field| u16_at(store, field.at).into());
+    u16_at(store, LIST_OFFSET.at) as usize == entry_at(0)
+        && u16_at(store, BLOCK_OFFSET.at) as usize == block_at(n, 0)
+        && u16_at(store, BLOCK_LENGTH.at) as usize == BLOCK
+        && Date::new(year, month, day).is_some()
+        && u16_at(store, ZERO.at) == 0
 }
 
 fn sound_entries(entries: &[u8]) -> bool {
     let mut before = 0;
     entries.chunks_exact(ENTRY).all(|entry| {
-        let number = u32_at(entry, 0);
+        let number = u32_at(entry, NUMBER.at);
         let ascending = number > before;
         before = number;
-        ascending && number <= 99999 && u16_at(entry, 4) <= 1 && u16_at(entry, 6) <= 1
+        ascending && number <= 99999 && u16_at(entry, ROW.at) <= 1 && u16_at(entry, SETTLED.at) <= 1
     })
 }
 
 fn sound_block(block: &[u8]) -> bool {
-    block[..RAW].chunks_exact(4).all(|b| sound_head(Head::from_bytes(four(b, 0))))
-        && block[RAW..CHECKED].chunks_exact(4).all(|b| sound_raw(Cell::from_bytes(four(b, 0))))
-        && block[CHECKED..].chunks_exact(4).all(|b| sound_checked(Cell::from_bytes(four(b, 0))))
+    block[..RAW].chunks_exact(HEAD).all(|b| sound_head(Head::from_bytes(four(b, 0))))
+        && block[RAW..CHECKED].chunks_exact(CELL).all(|b| sound_raw(Cell::from_bytes(four(b, 0))))
+        && block[CHECKED..].chunks_exact(CELL).all(|b| sound_checked(Cell::from_bytes(four(b, 0))))
 }
 
 fn sound_head(head: Head) -> bool {
@@ -168,7 +167,7 @@ fn sound_value(cell: Cell) -> bool {
 pub fn can_open(len: usize, stations: &[u32], rows: &[u16]) -> bool {
     (1..=32).contains(&stations.len())
         && rows.len() == stations.len()
-        && len == length(stations.len())
+        && len == store_length(stations.len())
         && rows.iter().all(|&row| row <= 1)
         && stations.iter().all(|&number| (1..=99999).contains(&number))
         && stations.windows(2).all(|pair| pair[0] < pair[1])
@@ -178,27 +177,27 @@ pub fn can_open(len: usize, stations: &[u32], rows: &[u16]) -> bool {
 pub fn write_fresh(store: &mut [u8], date: Date, stations: &[u32], rows: &[u16]) {
     let n = stations.len();
     let header = [
-        n as u16,
-        HEADER as u16,
-        (HEADER + ENTRY * n) as u16,
-        BLOCK as u16,
-        date.year,
-        date.month.into(),
-        date.day.into(),
-        0,
+        (N, n as u16),
+        (LIST_OFFSET, entry_at(0) as u16),
+        (BLOCK_OFFSET, block_at(n, 0) as u16),
+        (BLOCK_LENGTH, BLOCK as u16),
+        (YEAR, date.year),
+        (MONTH, date.month.into()),
+        (DAY, date.day.into()),
+        (ZERO, 0),
     ];
-    for (bytes, number) in store[..HEADER].chunks_exact_mut(2).zip(header) {
-        bytes.copy_from_slice(&number.to_be_bytes());
+    for (field, number) in header {
+        put_u16(store, field.at, number);
     }
     let (entries, blocks) = store[HEADER..].split_at_mut(ENTRY * n);
     for (entry, (number, row)) in entries.chunks_exact_mut(ENTRY).zip(stations.iter().zip(rows)) {
-        entry[..4].copy_from_slice(&number.to_be_bytes());
-        entry[4..6].copy_from_slice(&row.to_be_bytes());
-        entry[6..].copy_from_slice(&[0, 0]);
+        entry[NUMBER.at..NUMBER.at + 4].copy_from_slice(&number.to_be_bytes());
+        put_u16(entry, ROW.at, *row);
+        put_u16(entry, SETTLED.at, 0);
     }
     for block in blocks.chunks_exact_mut(BLOCK) {
         block.fill(0);
-        for head in block[..RAW].chunks_exact_mut(4) {
+        for head in block[..RAW].chunks_exact_mut(HEAD) {
             head.copy_from_slice(&Head::UNFILED.to_bytes());
         }
     }
@@ -206,17 +205,15 @@ pub fn write_fresh(store: &mut [u8], date: Date, stations: &[u32], rows: &[u16])
 
 // ---- Reading and writing the parts of a sound store ----
 
-fn stations(store: &[u8]) -> usize {
-    u16_at(store, 0) as usize
-}
-
-fn entry(index: usize) -> usize {
-    HEADER + ENTRY * index
+/// The number of stations.
+pub fn stations(store: &[u8]) -> usize {
+    u16_at(store, N.at) as usize
 }
 
 /// The day D.
 pub fn date(store: &[u8]) -> Date {
-    Date { year: u16_at(store, 8), month: u16_at(store, 10) as u8, day: u16_at(store, 12) as u8 }
+    let [year, month, day] = [YEAR, MONTH, DAY].map(|field| u16_at(store, field.at));
+    Date { year, month: month as u8, day: day as u8 }
 }
 
 /// The place of a station in the list, which ascends.
@@ -224,26 +221,30 @@ pub fn find(store: &[u8], station: u32) -> Result<usize, Refusal> {
     let (mut low, mut high) = (0, stations(store));
     while low < high {
         let middle = (low + high) / 2;
-        if u32_at(store, entry(middle)) < station {
+        if number(store, middle) < station {
             low = middle + 1;
         } else {
             high = middle;
         }
     }
-    if low < stations(store) && u32_at(store, entry(low)) == station {
+    if low < stations(store) && number(store, low) == station {
         Ok(low)
     } else {
         Err(Refusal::NoStation)
     }
 }
 
+fn number(store: &[u8], index: usize) -> u32 {
+    u32_at(store, entry_at(index) + NUMBER.at)
+}
+
 /// The station's climate row: 0 lowland, 1 hill.
 pub fn row(store: &[u8], index: usize) -> usize {
-    u16_at(store, entry(index) + 4) as usize
+    u16_at(store, entry_at(index) + ROW.at) as usize
 }
 
 pub fn require_settled(store: &[u8], index: usize) -> Result<(), Refusal> {
-    if u16_at(store, entry(index) + 6) == 1 {
+    if u16_at(store, entry_at(index) + SETTLED.at) == 1 {
         Ok(())
     } else {
         Err(Refusal::NotSettled)
@@ -251,36 +252,39 @@ pub fn require_settled(store: &[u8], index: usize) -> Result<(), Refusal> {
 }
 
 pub fn set_settled(store: &mut [u8], index: usize, settled: u16) {
-    let at = entry(index) + 6;
-    store[at..at + 2].copy_from_slice(&settled.to_be_bytes());
+    put_u16(store, entry_at(index) + SETTLED.at, settled);
 }
 
 /// The station's own part of the store.
 pub fn block(store: &[u8], index: usize) -> &[u8] {
-    let at = entry(stations(store)) + BLOCK * index;
+    let at = block_at(stations(store), index);
     &store[at..at + BLOCK]
 }
 
 pub fn block_mut(store: &mut [u8], index: usize) -> &mut [u8] {
-    let at = entry(stations(store)) + BLOCK * index;
+    let at = block_at(stations(store), index);
     &mut store[at..at + BLOCK]
 }
 
 pub fn head(block: &[u8], slot: usize) -> Head {
-    Head::from_bytes(four(block, 4 * slot))
+    Head::from_bytes(four(block, head_at(slot)))
+}
+
+pub fn put_head(block: &mut [u8], slot: usize, head: Head) {
+    block[head_at(slot)..head_at(slot) + HEAD].copy_from_slice(&head.to_bytes());
 }
 
 /// Replaces a slot's head and its nine raw cells.
 pub fn put_slot(block: &mut [u8], slot: usize, head: Head, cells: &[Cell; 9]) {
-    block[4 * slot..4 * slot + 4].copy_from_slice(&head.to_bytes());
-    let at = RAW + 36 * slot;
-    for (bytes, cell) in block[at..at + 36].chunks_exact_mut(4).zip(cells) {
+    put_head(block, slot, head);
+    let at = raw_at(0, slot);
+    for (bytes, cell) in block[at..at + 9 * CELL].chunks_exact_mut(CELL).zip(cells) {
         bytes.copy_from_slice(&cell.to_bytes());
     }
 }
 
 pub fn checked_cell(block: &[u8], element: usize, slot: usize) -> Cell {
-    Cell::from_bytes(four(block, CHECKED + 36 * slot + 4 * element))
+    Cell::from_bytes(four(block, checked_at(element, slot)))
 }
 
 pub fn raw_sheet(block: &[u8]) -> Sheet {
@@ -293,14 +297,22 @@ pub fn checked_sheet(block: &[u8]) -> Sheet {
 
 fn sheet(bytes: &[u8]) -> Sheet {
     let mut sheet = [[Cell::MISSING; 9]; 9];
-    for (cell, bytes) in sheet.as_flattened_mut().iter_mut().zip(bytes.chunks_exact(4)) {
+    for (cell, bytes) in sheet.as_flattened_mut().iter_mut().zip(bytes.chunks_exact(CELL)) {
         *cell = Cell::from_bytes(four(bytes, 0));
     }
     sheet
 }
 
+pub fn put_raw(block: &mut [u8], sheet: &Sheet) {
+    put_sheet(&mut block[RAW..CHECKED], sheet);
+}
+
 pub fn put_checked(block: &mut [u8], sheet: &Sheet) {
-    for (bytes, cell) in block[CHECKED..].chunks_exact_mut(4).zip(sheet.as_flattened()) {
+    put_sheet(&mut block[CHECKED..], sheet);
+}
+
+fn put_sheet(bytes: &mut [u8], sheet: &Sheet) {
+    for (bytes, cell) in bytes.chunks_exact_mut(CELL).zip(sheet.as_flattened()) {
         bytes.copy_from_slice(&cell.to_bytes());
     }
 }

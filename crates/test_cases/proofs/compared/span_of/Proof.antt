@@ -1,8 +1,7 @@
--- `cases::compared::span_of` is safe and ends.
+-- `test_cases::compared::span_of` is safe and ends.
 -- Assumes nothing.
 use Prim.Native.Nat.{_-_}
 use borrow.Author.Needs.{needs}
-use Rattle.store_layout.specs.Layout.{storeLength}
 use Rattle.test_cases.proofs.compared.span_of.Statement.{statement}
 use Rattle.test_cases.proofs.compared.span_of.Tie as tie
 use Rattle.test_cases.proofs.compared.span_of.Reads as reads
@@ -13,7 +12,7 @@ abbrev Inv-loop : tie.InvT-loop
 Inv-loop before now s₀ i₀ s i = Unit {0}
 
 abbrev μ-loop : tie.MeasureT-loop
-μ-loop before now s₀ i₀ s i = storeLength 33 - i
+μ-loop before now s₀ i₀ s i = 99999 - i
 
 loop-holds : tie.Need-loop-holds Inv-loop μ-loop
 loop-holds c = search needs

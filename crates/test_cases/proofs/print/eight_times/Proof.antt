@@ -1,4 +1,4 @@
--- `cases::print::eight_times` is safe and ends.
+-- `test_cases::print::eight_times` is safe and ends.
 -- Assumes nothing.
 use Prim.Native.Nat.{_-_}
 use borrow.Author.Needs.{needs}

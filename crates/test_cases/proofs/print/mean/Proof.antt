@@ -1,4 +1,4 @@
--- `cases::print::mean` is safe and ends.
+-- `test_cases::print::mean` is safe and ends.
 -- Assumes nothing.
 use mathlib.Core.Path.{subst}
 use Rattle.daily.specs.Coded.{IsNumber}

@@ -1,13 +1,13 @@
--- `cases::line::find` is safe and ends.
+-- `test_lines::words::find` is safe and ends.
 -- Assumes nothing.
 use mathlib.Core.Path.{_≡_}
 use Prim.Native.Nat.{_-_, _≤_}
 use lib.ListN.{length}
 use borrow.Author.Needs.{needs}
-use Rattle.test_cases.proofs.words.find.Statement.{statement}
-use Rattle.test_cases.proofs.words.find.Tie as tie
-use Rattle.test_cases.proofs.words.find.Reads as reads
-use Rattle.test_cases.proofs.words.find.Lts as lts
+use Rattle.test_lines.proofs.words.find.Statement.{statement}
+use Rattle.test_lines.proofs.words.find.Tie as tie
+use Rattle.test_lines.proofs.words.find.Reads as reads
+use Rattle.test_lines.proofs.words.find.Lts as lts
 
 abbrev Inv-loop : tie.InvT-loop
 Inv-loop s b from i₀ i = (from ≤ i) × (i ≤ length s)

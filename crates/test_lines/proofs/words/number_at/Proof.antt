@@ -1,13 +1,13 @@
--- `cases::line::number_at` is safe and ends.
+-- `test_lines::words::number_at` is safe and ends.
 -- Assumes nothing.
 use Prim.Native.Nat.{_-_}
 use lib.ListN.{length}
 use borrow.Author.Needs.{needs}
-use Rattle.test_cases.proofs.words.number_at.Statement.{statement}
-use Rattle.test_cases.proofs.words.number_at.Tie as tie
-use Rattle.test_cases.proofs.words.number_at.Reads as reads
-use Rattle.test_cases.proofs.words.number_at.Lts as lts
-use Rattle.test_cases.proofs.words.more.Reads as more-reads
+use Rattle.test_lines.proofs.words.number_at.Statement.{statement}
+use Rattle.test_lines.proofs.words.number_at.Tie as tie
+use Rattle.test_lines.proofs.words.number_at.Reads as reads
+use Rattle.test_lines.proofs.words.number_at.Lts as lts
+use Rattle.test_lines.proofs.words.more.Reads as more-reads
 
 abbrev Inv-loop : tie.InvT-loop
 Inv-loop line at n₀ i₀ n i = Unit {0}

@@ -1,14 +1,14 @@
--- `cases::line::stations_of` is safe and ends.
+-- `test_lines::words::stations_of` is safe and ends.
 -- Assumes nothing.
 use mathlib.Core.Path.{_≡_}
 use Prim.Native.Nat.{_-_}
 use lib.ListN.{length}
 use borrow.Author.Needs.{needs}
-use Rattle.test_cases.proofs.words.stations_of.Statement.{statement}
-use Rattle.test_cases.proofs.words.stations_of.Tie as tie
-use Rattle.test_cases.proofs.words.stations_of.Reads as reads
-use Rattle.test_cases.proofs.words.stations_of.Lts as lts
-use Rattle.test_cases.proofs.words.number_at.Reads as number-at-reads
+use Rattle.test_lines.proofs.words.stations_of.Statement.{statement}
+use Rattle.test_lines.proofs.words.stations_of.Tie as tie
+use Rattle.test_lines.proofs.words.stations_of.Reads as reads
+use Rattle.test_lines.proofs.words.stations_of.Lts as lts
+use Rattle.test_lines.proofs.words.number_of.Reads as number-of-reads
 
 abbrev Inv-loop : tie.InvT-loop
 Inv-loop line out₀ k₀ out k = 33 ≡ length out
@@ -19,14 +19,14 @@ abbrev μ-loop : tie.MeasureT-loop
 loop-holds : tie.Need-loop-holds Inv-loop μ-loop
 loop-holds c = search needs
 
-mul-number-at : tie.Need-mul-number-at Inv-loop μ-loop
-mul-number-at c = search needs
+mul-number-of : tie.Need-mul-number-of Inv-loop μ-loop
+mul-number-of c = search needs
 
-add-number-at : tie.Need-add-number-at Inv-loop μ-loop
-add-number-at c = search needs
+add-number-of : tie.Need-add-number-of Inv-loop μ-loop
+add-number-of c = search needs
 
-number-at-requires : tie.Need-number-at-requires Inv-loop μ-loop
-number-at-requires c κs = search needs
+number-of-requires : tie.Need-number-of-requires Inv-loop μ-loop
+number-of-requires c κs = search needs
 
 mul-out : tie.Need-mul-out Inv-loop μ-loop
 mul-out c = search needs
@@ -53,9 +53,9 @@ stations-of-spec =
     Inv-loop
     μ-loop
     loop-holds
-    mul-number-at
-    add-number-at
-    number-at-requires
+    mul-number-of
+    add-number-of
+    number-of-requires
     mul-out
     array-write-out
     add-k

@@ -1,0 +1,187 @@
+// A case's line: words with one space between them. The first says what the line is.
+ghost use mathlib.Core.Path.{_≡_};
+ghost use Prim.Native.Nat.{_≤_};
+ghost use lib.ListN.{length};
+
+// The calls, and `put`.
+pub enum Kind {
+    Open,
+    File,
+    Settle,
+    Cell,
+    Element,
+    Day,
+    Put,
+    Other,
+}
+
+// The place of the first b at or after a place; the end where there is none.
+pub fn find(s: &[u8], b: u8, from: usize) -> usize
+    requires { ⌜ from ≤ length (now s) ⌝ }
+    ensures { λ r. ⌜ (from ≤ r) × (r ≤ length (now (s .entry))) ⌝ }
+{
+    let mut i = from;
+    while i < s.len() {
+        if s[i] == b {
+            return i;
+        }
+        i += 1;
+    }
+    i
+}
+
+// Where the word after the one at a place starts; the end where there is none.
+fn next(line: &[u8], at: usize) -> usize
+    requires { ⌜ at ≤ length (now line) ⌝ }
+    ensures { λ r. ⌜ r ≤ length (now (line .entry)) ⌝ }
+{
+    let e = find(line, b' ', at);
+    if e < line.len() {
+        return e + 1;
+    }
+    e
+}
+
+// Where the k-th word starts, the first being that at 0.
+pub fn start(line: &[u8], k: usize) -> usize
+    ensures { λ r. ⌜ r ≤ length (now (line .entry)) ⌝ }
+{
+    let mut at = 0;
+    for i in 0..k {
+        at = next(line, at);
+    }
+    at
+}
+
+// Whether the k-th word is this one.
+pub fn is(line: &[u8], k: usize, word: &[u8]) -> bool {
+    let a = start(line, k);
+    let e = find(line, b' ', a);
+    check::same(&line[a..e], word)
+}
+
+pub fn kind_of(line: &[u8]) -> Kind {
+    if is(line, 0, b"open") {
+        return Kind::Open;
+    }
+    if is(line, 0, b"file") {
+        return Kind::File;
+    }
+    if is(line, 0, b"settle") {
+        return Kind::Settle;
+    }
+    if is(line, 0, b"cell") {
+        return Kind::Cell;
+    }
+    if is(line, 0, b"element") {
+        return Kind::Element;
+    }
+    if is(line, 0, b"day") {
+        return Kind::Day;
+    }
+    if is(line, 0, b"put") {
+        return Kind::Put;
+    }
+    Kind::Other
+}
+
+// A number with one digit more.
+fn more(n: u32, digit: u8) -> u32 {
+    ((n as u64 * 10 + (digit % 16) as u64) % 4294967296) as u32
+}
+
+// The number at a place, up to a space.
+fn number_at(line: &[u8], at: usize) -> u32 {
+    let mut n = 0;
+    let mut i = at;
+    while i < line.len() {
+        if line[i] == b' ' {
+            return n;
+        }
+        n = more(n, line[i]);
+        i += 1;
+    }
+    n
+}
+
+fn is_minus(line: &[u8], at: usize) -> bool {
+    if at < line.len() {
+        return line[at] == b'-';
+    }
+    false
+}
+
+// The k-th word as a number: 0 where there is none; in the last 32 bits where a minus stands before it.
+pub fn number_of(line: &[u8], k: usize) -> u32 {
+    let at = start(line, k);
+    if is_minus(line, at) {
+        return ((4294967296 - number_at(line, at + 1) as u64) % 4294967296) as u32;
+    }
+    number_at(line, at)
+}
+
+pub fn least(a: usize, b: usize) -> usize
+    ensures { λ r. ⌜ (r ≤ a) × (r ≤ b) ⌝ }
+{
+    if a < b {
+        return a;
+    }
+    b
+}
+
+// The k-th word as a number up to a limit.
+pub fn up_to(line: &[u8], k: usize, most: usize) -> usize
+    ensures { λ r. ⌜ r ≤ most ⌝ }
+{
+    least(number_of(line, k) as usize, most)
+}
+
+fn space(b: u8) -> usize
+    ensures { λ r. ⌜ r ≤ 1 ⌝ }
+{
+    if b == b' ' {
+        return 1;
+    }
+    0
+}
+
+fn spaces(line: &[u8]) -> usize {
+    let mut n = 0;
+    for i in 0..line.len() {
+        n += space(line[i]);
+    }
+    n
+}
+
+// Half of the words that an `open` line has after so many and one more, up to 33: after the second its stations, after the third its rows.
+pub fn pairs(line: &[u8], after: usize) -> usize
+    ensures { λ r. ⌜ r ≤ 33 ⌝ }
+{
+    let n = spaces(line);
+    if n < after {
+        return 0;
+    }
+    least((n - after) / 2, 33)
+}
+
+// The stations of an `open` line, after its date.
+pub fn stations_of(line: &[u8]) -> [u32; 33]
+    ensures { λ r. ⌜ 33 ≡ length r ⌝ }
+{
+    let mut out = [0u32; 33];
+    for k in 0..33 {
+        out[k] = number_of(line, 4 + 2 * k);
+    }
+    out
+}
+
+// Their rows.
+pub fn rows_of(line: &[u8]) -> [u16; 33]
+    ensures { λ r. ⌜ 33 ≡ length r ⌝ }
+{
+    let mut out = [0u16; 33];
+    for k in 0..33 {
+        out[k] = (number_of(line, 5 + 2 * k) % 65536) as u16;
+    }
+    out
+}
