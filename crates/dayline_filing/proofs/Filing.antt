@@ -3,7 +3,6 @@
 use mathlib.Core.Path.{_≡_, refl, sym, _∙_, ap, ap₂, subst}
 use mathlib.Core.Bool.{Bool, true, false, _&&_, cond}
 use mathlib.Core.List.{List, [], _∷_, _++_}
-use mathlib.Core.Logic.{_⊎_, ⊎-elim}
 use Prim.Native.Nat.{ℕ, _+_, _<_, _≤_}
 use native.Mathlib.Numerals.{add-one}
 use native.Mathlib.Omega.{arith}
@@ -22,7 +21,7 @@ use Rattle.text_bytes.proofs.Writing.{holds-none, holds-more, holds-self}
 use Rattle.dayline_text.specs.Cuts.{isBlank}
 use Rattle.dayline_filing.specs.declared.Progress.{Progress}
 use Rattle.dayline_filing.specs.Reports.{reports, rest, allBlank, tail, inputReports}
-use Rattle.dayline_filing.specs.Filing.{Tally, more, filing, filings, Filed, Ended, Room, Under, Fed, Feeds, Begun}
+use Rattle.dayline_filing.specs.Filing.{Tally, more, filing, filings, Filed, Ended, Room, Under, Feeds, Begun}
 use Rattle.dayline_filing.proofs.Cutting.{reports-none, rest-none, reports-end, rest-end, reports-on, rest-on, rest-two, reports-two, blank-none, blank-more}
 
 -- ---- what is kept of a report does for the whole

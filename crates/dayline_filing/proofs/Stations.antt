@@ -1,10 +1,8 @@
 -- The line of a station, from what the code's answer says.
 -- Assumes nothing.
-use mathlib.Core.Path.{_≡_, refl, sym, _∙_, ap, subst}
-use mathlib.Core.List.{List, []}
-use Prim.Native.Nat.{ℕ, _≤_}
-use native.Mathlib.Omega.{arith}
-use lib.ListN.{length, take}
+use mathlib.Core.Path.{_≡_, subst}
+use mathlib.Core.List.{List}
+use Prim.Native.Nat.{ℕ}
 use Rattle.daily.specs.Coded.{Says}
 use Rattle.daily.specs.Line as Line
 use Rattle.daily.specs.declared.DayLine.{DayLine}
@@ -16,7 +14,7 @@ use Rattle.rules.specs.Step.{step}
 use Rattle.rules.proofs.Answers.{is-refused, IsDay, is-day}
 use Rattle.text_bytes.specs.Written.{Written}
 use Rattle.text_bytes.proofs.Writing.{written-none}
-use Rattle.dayline_print.specs.Printed.{stationText, dayText}
+use Rattle.dayline_print.specs.Printed.{dayText}
 use Rattle.dayline_filing.specs.Printed.{settled, lineOf}
 
 said : (station : ℕ) (l : DayLine) (d : Line.DayLine) → Says l d → dayText station l ≡ lineOf station (aDay d)

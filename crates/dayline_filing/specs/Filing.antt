@@ -1,6 +1,6 @@
 -- What the reports leave, filed one after the other, and what the code keeps of the one that is being read. Assumes nothing.
 use mathlib.Core.Path.{_≡_}
-use mathlib.Core.Bool.{Bool, true, false, cond}
+use mathlib.Core.Bool.{cond}
 use mathlib.Core.List.{List, [], _∷_}
 use Prim.Native.Nat.{ℕ, _+_, _≤_, min}
 use lib.ListN.{length}

@@ -1,6 +1,6 @@
 -- Numbers in decimal, how long the printed lines are, and that a buffer has room for them.
 -- Assumes nothing.
-use mathlib.Core.Path.{_≡_, refl, sym, _∙_, ap}
+use mathlib.Core.Path.{_≡_, refl, _∙_, ap}
 use mathlib.Core.Bool.{true, false, true≢false}
 use mathlib.Core.List.{List, [], _∷_, _++_}
 use Prim.Native.Nat.{ℕ, zero, suc, _+_, _*_, _/_, _^_, _<_, _≤_}
@@ -18,8 +18,8 @@ use Rattle.daily.specs.declared.Rain.the-variants as rains
 use Rattle.daily.specs.declared.Extreme.{Extreme}
 use Rattle.daily.specs.declared.Extreme.the-variants as extremes
 use Rattle.text_bytes.specs.Written.{Written, Adds}
-use Rattle.dayline_print.specs.Numbers.{lastDigit, fiveDigits}
-use Rattle.dayline_print.specs.Printed.{digits, Enough, decimal, signed, rain, slot, field, stationText, dayText, refusedText}
+use Rattle.dayline_print.specs.Numbers.{lastDigit}
+use Rattle.dayline_print.specs.Printed.{digits, Enough, decimal, signed, rain, slot, stationText, dayText, refusedText}
 use Rattle.text_bytes.proofs.Writing.{adds-as, adds-two, written-all}
 
 -- ---- digits

@@ -1,6 +1,6 @@
 -- `bulletin::file_report` meets its contract: the buffer holds the rebuilt text, or its first 513 bytes.
 -- Assumes nothing.
-use mathlib.Core.Path.{_≡_, sym, ap}
+use mathlib.Core.Path.{sym, ap}
 use mathlib.Core.Bool.{true, false}
 use native.Mathlib.Omega.{arith}
 use Rattle.synop_text.specs.Groups.{groups}
