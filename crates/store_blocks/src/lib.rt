@@ -5,25 +5,21 @@ ghost use lib.ListN.{length};
 ghost use Rattle.laws.specs.All.{all};
 ghost use Rattle.store_layout.specs.Layout.{blockLength, cellElement, headLength, cellLength, sheetLength, rawFrom, headAt};
 ghost use Rattle.store_layout.specs.Sound.{soundHead, soundCell, soundBlock};
-use quality::head::SlotHead;
 use store_fields::is_cell;
 use store_fields::is_head;
 use store_numbers::at::CELL_LENGTH;
 use store_numbers::at::CHECKED_FROM;
 use store_numbers::at::HEAD_LENGTH;
 use store_numbers::at::RAW_FROM;
+use store_numbers::at::SLOT_LENGTH;
+use store_numbers::head::head_at;
 use store_numbers::read::word_at;
 
 fn is_head_at(store: &[u8], at: usize) -> bool
     requires { ⌜ at + headLength ≤ length (now store) ⌝ }
     ensures { λ r. ⌜ r ≡ soundHead (now (store .entry)) at ⌝ }
 {
-    is_head(SlotHead {
-        filed: store[at],
-        ir: store[at + 1],
-        tr: store[at + 2],
-        dd: store[at + 3],
-    })
+    is_head(head_at(store, at))
 }
 
 // The nine slot heads from a position on.
@@ -73,7 +69,7 @@ fn are_cells(store: &[u8], at: usize, states: u8, flags: u8) -> bool
     ensures { λ r. ⌜ r ≡ all (λ j. soundCell states flags (cellElement j) (now (store .entry)) (at + cellLength * j)) 81 ⌝ }
 {
     for k in 0..9 {
-        if !are_nine(store, at + CELL_LENGTH * 9 * k, states, flags) {
+        if !are_nine(store, at + SLOT_LENGTH * k, states, flags) {
             return false;
         }
     }

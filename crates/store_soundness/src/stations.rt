@@ -9,11 +9,10 @@ ghost use Rattle.store_layout.specs.Layout.{long, entryAt, storeLength};
 ghost use Rattle.store_layout.specs.Sound.{soundStation, soundOrder};
 use store_blocks::is_block;
 use store_fields::is_entry;
-use store_numbers::at::BLOCK_LENGTH;
-use store_numbers::at::ENTRY_LENGTH;
-use store_numbers::at::HEADER_LENGTH;
 use store_numbers::at::ROW_IN;
 use store_numbers::at::SETTLED_IN;
+use store_numbers::at::block_at;
+use store_numbers::at::entry_at;
 use store_numbers::read::long_at;
 use store_numbers::read::word_at;
 
@@ -22,7 +21,7 @@ fn is_station(store: &[u8], n: usize, i: usize, last: u32) -> bool
     requires { ⌜ (storeLength n ≤ length (now store)) × (i < n) ⌝ }
     ensures { λ r. ⌜ r ≡ (ltb last (long (now (store .entry)) (entryAt i)) && soundStation (now (store .entry)) n i) ⌝ }
 {
-    let at = HEADER_LENGTH + ENTRY_LENGTH * i;
+    let at = entry_at(i);
     let settled = word_at(store, at + SETTLED_IN);
     if !is_entry(
         last,
@@ -34,7 +33,7 @@ fn is_station(store: &[u8], n: usize, i: usize, last: u32) -> bool
     }
     is_block(
         store,
-        HEADER_LENGTH + ENTRY_LENGTH * n + BLOCK_LENGTH * i,
+        block_at(n, i),
         settled,
     )
 }
@@ -49,7 +48,7 @@ pub fn are_stations(store: &[u8], n: usize) -> bool
         if !is_station(store, n, i, last) {
             return false;
         }
-        last = long_at(store, HEADER_LENGTH + ENTRY_LENGTH * i);
+        last = long_at(store, entry_at(i));
     }
     true
 }

@@ -14,7 +14,6 @@ use crate::words::least;
 use crate::words::number_of;
 use crate::words::start;
 use crate::words::up_to;
-use store_numbers::at::BLOCK_LENGTH;
 use store_numbers::at::BLOCK_LENGTH_AT;
 use store_numbers::at::BLOCK_OFFSET_AT;
 use store_numbers::at::CELL_LENGTH;
@@ -22,9 +21,7 @@ use store_numbers::at::CHECKED_FROM;
 use store_numbers::at::COUNT_AT;
 use store_numbers::at::DAY_AT;
 use store_numbers::at::DD_IN;
-use store_numbers::at::ENTRY_LENGTH;
 use store_numbers::at::HEAD_LENGTH;
-use store_numbers::at::HEADER_LENGTH;
 use store_numbers::at::LIST_OFFSET_AT;
 use store_numbers::at::MONTH_AT;
 use store_numbers::at::RAW_FROM;
@@ -82,14 +79,14 @@ fn entry_at(i: usize) -> usize
     requires { ⌜ i ≤ 33 ⌝ }
     ensures { λ r. ⌜ r ≤ 9999 ⌝ }
 {
-    HEADER_LENGTH + ENTRY_LENGTH * i
+    store_numbers::at::entry_at(i)
 }
 
 fn block_at(n: usize, i: usize) -> usize
     requires { ⌜ (n ≤ 33) × (i ≤ 33) ⌝ }
     ensures { λ r. ⌜ r ≤ 49999 ⌝ }
 {
-    entry_at(n) + BLOCK_LENGTH * i
+    store_numbers::at::block_at(n, i)
 }
 
 // What is lent from a line on, where something was before it.

@@ -24,7 +24,6 @@ are-cells-spec =
     (λ c. none _ _)
     (λ c. search needs)
     (λ c. search needs)
-    (λ c. search needs)
     (λ c κs. search needs)
     (λ c. stopped (c .before .before .before .loop .inv) (search needs) _ (c .before .are-nine .ensures) (c .if1 .taken) ∙ (let a = c .before .before .before .before .before .args in slot-by-slot (λ e. soundCell (a .states) (a .flags) e (a .store .now)) (a .at)))
     (λ c. search needs)

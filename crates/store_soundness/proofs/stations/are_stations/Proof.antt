@@ -32,8 +32,8 @@ returns c =
 
 loop-again : tie.Need-loop-again Inv-loop μ-loop
 loop-again c = (
-  more (c .before .before .before .before .loop .inv .0) (search needs) _ (tested (c .before .before)) (c .before .if1 .left),
-  rw add-one (c .long-at .ensures),
+  more (c .before .before .before .before .before .loop .inv .0) (search needs) _ (tested (c .before .before .before)) (c .before .before .if1 .left),
+  rw (add-one, ← c .before .entry-at .ensures) (c .long-at .ensures),
 )
 
 returns-2 : tie.Need-returns-2 Inv-loop μ-loop
@@ -42,16 +42,5 @@ returns-2 c = whole (c .before .loop .inv .0) (search needs) ∙ stations-in-tur
 pub are-stations-spec : {M : Type 1} → statement M
 are-stations-spec =
     tie.close
-    (tie.spec
-    Inv-loop
-    μ-loop
-    loop-holds
-    (λ c κs. search needs)
-    returns
-    (λ c. search needs)
-    (λ c. search needs)
-    (λ c κs. search needs)
-    (λ c. search needs)
-    (λ c. search needs)
-    loop-again
-    returns-2)
+    (tie.spec Inv-loop μ-loop loop-holds (λ c κs. search needs) returns (λ c κs. search needs) (λ c κs. search needs) (λ c. search needs)
+    (λ c. search needs) loop-again returns-2)
