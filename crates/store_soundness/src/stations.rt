@@ -31,11 +31,7 @@ fn is_station(store: &[u8], n: usize, i: usize, last: u32) -> bool
     ) {
         return false;
     }
-    is_block(
-        store,
-        block_at(n, i),
-        settled,
-    )
+    is_block(store, block_at(n, i), settled)
 }
 
 // The n stations, each with a number above the one before.
