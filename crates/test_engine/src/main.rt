@@ -32,7 +32,6 @@ use test_lines::fields::lend;
 use test_lines::fields::put;
 use test_lines::words;
 use test_lines::words::Kind;
-use test_lines::words::is;
 use test_lines::words::kind_of;
 use test_lines::words::number_of;
 
@@ -89,11 +88,8 @@ fn day(store: &[u8], station: u32) {
     }
 }
 
-// A line's call on a store of n stations.
-fn call(store: &mut [u8], n: usize, l: &[u8]) {
-    let a = number_of(l, 1);
-    let b = number_of(l, 2);
-    let c = number_of(l, 3);
+// A line's call on a store of n stations; a, b and c are the numbers of all but `open`, `file` and `put`.
+fn call(store: &mut [u8], n: usize, l: &[u8], a: u32, b: u32, c: u32) {
     match kind_of(l) {
         Kind::Open => open(store, l),
         Kind::File => file(store, l),
@@ -108,13 +104,16 @@ fn call(store: &mut [u8], n: usize, l: &[u8]) {
 
 // A line's call on the first bytes of the buffer, which comes back as the call leaves it; a comment and `lend` make none.
 fn step(buffer: [u8; ROOM], n: usize, bytes: u32, l: &[u8]) -> [u8; ROOM] {
-    if is(l, 0, b"#") | is(l, 0, b"lend") {
+    if words::is_silent(l) {
         return buffer;
     }
     text(b" ->");
+    let a = number_of(l, 1);
+    let b = number_of(l, 2);
+    let c = number_of(l, 3);
     let mut now = buffer;
     let size = io::count(bytes as isize, &now);
-    call(&mut now[..size], n, l);
+    call(&mut now[..size], n, l, a, b, c);
     compare(buffer, now);
     now
 }

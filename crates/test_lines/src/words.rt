@@ -60,6 +60,11 @@ pub fn is(line: &[u8], k: usize, word: &[u8]) -> bool {
     check::same(&line[a..e], word)
 }
 
+// A comment, or `lend`.
+pub fn is_silent(line: &[u8]) -> bool {
+    is(line, 0, b"#") | is(line, 0, b"lend")
+}
+
 pub fn kind_of(line: &[u8]) -> Kind {
     if is(line, 0, b"open") {
         return Kind::Open;
