@@ -23,17 +23,36 @@ pub const DAY_AT: usize = 12;
 
 pub const ZERO_AT: usize = 14;
 
-// A station's entry, and in it its climate row and settled mark.
+// A station's entry, and in it its number, climate row and settled mark.
 pub const ENTRY_LENGTH: usize = 8;
+
+pub const NUMBER_IN: usize = 0;
 
 pub const ROW_IN: usize = 4;
 
 pub const SETTLED_IN: usize = 6;
 
-// A station's block: nine slot heads, then the raw and the checked cells, in each nine slots of nine cells.
+// A slot head, and in it filed, iR, tR and dd.
 pub const HEAD_LENGTH: usize = 4;
 
+pub const FILED_IN: usize = 0;
+
+pub const IR_IN: usize = 1;
+
+pub const TR_IN: usize = 2;
+
+pub const DD_IN: usize = 3;
+
+// A cell, and in it its state, flag and value.
 pub const CELL_LENGTH: usize = 4;
+
+pub const STATE_IN: usize = 0;
+
+pub const FLAG_IN: usize = 1;
+
+pub const VALUE_IN: usize = 2;
+
+// A station's block: nine slot heads, then the raw and the checked cells, in each nine slots of nine cells.
 
 pub const SLOT_LENGTH: usize = CELL_LENGTH * 9;
 

@@ -1,10 +1,13 @@
-// A slot head in the store: the order of its bytes stands here alone.
+// A slot head in the store, read and written.
 ghost use mathlib.Core.Path.{_≡_};
 ghost use Prim.Native.Nat.{_+_, _≤_};
 ghost use lib.ListN.{length};
 ghost use lib.Seq.{sets};
 ghost use Rattle.store_layout.specs.Layout.{headLength, decodeHead, encodeHead};
 ghost use Rattle.store_layout.specs.Model as model;
+use crate::at::DD_IN;
+use crate::at::IR_IN;
+use crate::at::TR_IN;
 use crate::write::put_four;
 use quality::head::SlotHead;
 
@@ -15,9 +18,9 @@ pub fn head_at(store: &[u8], at: usize) -> SlotHead
 {
     SlotHead {
         filed: store[at],
-        ir: store[at + 1],
-        tr: store[at + 2],
-        dd: store[at + 3],
+        ir: store[at + IR_IN],
+        tr: store[at + TR_IN],
+        dd: store[at + DD_IN],
     }
 }
 

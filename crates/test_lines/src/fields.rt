@@ -21,28 +21,21 @@ use store_numbers::at::CHECKED_FROM;
 use store_numbers::at::COUNT_AT;
 use store_numbers::at::DAY_AT;
 use store_numbers::at::DD_IN;
+use store_numbers::at::FILED_IN;
+use store_numbers::at::FLAG_IN;
 use store_numbers::at::HEAD_LENGTH;
+use store_numbers::at::IR_IN;
 use store_numbers::at::LIST_OFFSET_AT;
 use store_numbers::at::MONTH_AT;
+use store_numbers::at::NUMBER_IN;
 use store_numbers::at::RAW_FROM;
 use store_numbers::at::ROW_IN;
 use store_numbers::at::SETTLED_IN;
+use store_numbers::at::STATE_IN;
 use store_numbers::at::TR_IN;
+use store_numbers::at::VALUE_IN;
 use store_numbers::at::YEAR_AT;
 use store_numbers::at::ZERO_AT;
-
-// In an entry, a head and a cell, what is not named there.
-const NUMBER_IN: usize = 0;
-
-const FILED_IN: usize = 0;
-
-const IR_IN: usize = 1;
-
-const STATE_IN: usize = 0;
-
-const FLAG_IN: usize = 1;
-
-const VALUE_IN: usize = 2;
 
 // What is lent: as many bytes of the buffer as a store of n stations has, or some less or more.
 pub struct Lent {
