@@ -17,7 +17,7 @@ use Rattle.synop_codes.specs.Value.{Value, missing, read, Within}
 use Rattle.store_layout.specs.Model.{Block, Station, headOf}
 use Rattle.store_layout.specs.Valid.{ValidBlock, ValidStation, isDirection}
 use Rattle.store_layout.specs.Updates.{withBlock}
-use Rattle.store_layout.proofs.Validity.{head-whole, valid-with-slot, valid-with-checked, valid-with-block}
+use Rattle.store_layout.proofs.Validity.{head-whole, valid-marked, valid-with-slot, valid-with-checked, valid-with-block}
 use Rattle.quality.specs.Cell.{none}
 use Rattle.quality.specs.Limits.{warm}
 use Rattle.quality.specs.Valid.{RawCell}
@@ -58,8 +58,9 @@ pub kept-settled : (d : Date) (t : Station) → ValidStation t → Kept t (settl
 unfolding settledStation
 kept-settled d t v =
     kept-block _ 1 t v
-    (valid-with-checked 1 _ (t .block) (v .block)
-    (settled-keeps (t .row) (warm (d .month)) (directions (t .block)) (t .block .raw) (raw-sheet-valid (t .block .raw) (v .block .raw))))
+    (valid-marked 1 _
+    (valid-with-checked _ (t .block) (v .block)
+    (settled-keeps (t .row) (warm (d .month)) (directions (t .block)) (t .block .raw) (raw-sheet-valid (t .block .raw) (v .block .raw)))))
     (lit≤ tt)
 
 pub lawful-settling : Lawful settling
@@ -91,9 +92,10 @@ module _ (head : Indicators) (values : List Value) (f : Fits head values) where
   unfolding filed
   kept-filed k t v =
       kept-block _ 0 t v
-      (valid-with-slot 0 k (filedHead head) (map rawCell values) (t .block) (v .block)
+      (valid-marked 0 _
+      (valid-with-slot k (filedHead head) (map rawCell values) (t .block) (v .block)
       (head-whole (filedHead head) (record { filed = lit≤ tt; ir = f .indicator; tr = f .duration; dd = f .direction }))
-      (λ e l. subst (RawCell e) (sym (raw-at values e)) (valid-raw e (getD values e missing) (f .value e l))))
+      (λ e l. subst (RawCell e) (sym (raw-at values e)) (valid-raw e (getD values e missing) (f .value e l)))))
       (lit≤ tt)
 
   pub lawful-take : (yy gg : ℕ) → Lawful (take yy gg head values)
