@@ -16,7 +16,7 @@ use Rattle.calendar.specs.declared.Slot.the-variants.{At, Nothing}
 use Rattle.synop_codes.specs.Value.{Value, missing, read, Within}
 use Rattle.store_layout.specs.Model.{Station, headOf}
 use Rattle.store_layout.specs.Valid.{ValidStation, isDirection}
-use Rattle.store_layout.proofs.Validity.{head-whole, valid-with-slot}
+use Rattle.store_layout.proofs.Validity.{head-whole, valid-marked, valid-with-slot}
 use Rattle.quality.specs.Cell.{none}
 use Rattle.quality.specs.Valid.{RawCell}
 use Rattle.quality.proofs.Validity.{cell-whole, none-valid}
@@ -78,9 +78,10 @@ module _ (head : Indicators) (values : List Value) (f : Fits head values) where
   unfolding filed
   kept-filed k t v =
       kept-block _ 0 t v
-      (valid-with-slot 0 k (filedHead k head) (filedCells k head values) (t .block) (v .block)
+      (valid-marked 0 _
+      (valid-with-slot k (filedHead k head) (filedCells k head values) (t .block) (v .block)
       (head-whole (filedHead k head) (record { filed = lit≤ tt; ir = f .indicator; tr = f .duration; dd = f .direction }))
-      (λ e l. subst (RawCell e) (sym (raw-at values e)) (valid-raw e (getD values e missing) (f .value e l))))
+      (λ e l. subst (RawCell e) (sym (raw-at values e)) (valid-raw e (getD values e missing) (f .value e l)))))
       (lit≤ tt)
 
   pub lawful-take : (yy gg : ℕ) → Lawful (take yy gg head values)

@@ -14,7 +14,7 @@ use Rattle.quality.proofs.Validity.{raw-sheet-valid, range-keeps, internal-keep
 use Rattle.store_layout.specs.Model.{Station}
 use Rattle.store_layout.specs.Valid.{ValidStation}
 use Rattle.store_layout.specs.Updates.{withChecked, withBlock}
-use Rattle.store_layout.proofs.Validity.{entry-parts, valid-with-checked}
+use Rattle.store_layout.proofs.Validity.{entry-parts, valid-marked, valid-with-checked}
 use Rattle.rules.specs.Rules.{Date, directions, withMark, copyStep, rangeStep, internalStep, timeStep, fillStep, settledStation}
 use Rattle.rules.proofs.Kept.{Kept, kept-on, kept-block}
 
@@ -25,7 +25,7 @@ settled-at-once d t = refl
 
 -- ---- each step keeps a station
 kept-sheet : {sheet : List (List Cell)} (t : Station) → ValidStation t → ValidSheet sheet → Kept t (withBlock (withChecked sheet (t .block)) (t .settled) t)
-kept-sheet t v w = kept-block _ (t .settled) t v (valid-with-checked (t .settled) _ (t .block) (v .block) w) (entry-parts (v .entry) .settled-most)
+kept-sheet t v w = kept-block _ (t .settled) t v (valid-with-checked _ (t .block) (v .block) w) (entry-parts (v .entry) .settled-most)
 
 pub kept-copy : (t : Station) → ValidStation t → Kept t (copyStep t)
 unfolding copyStep
@@ -48,7 +48,7 @@ unfolding fillStep
 kept-fill t v = kept-sheet t v (fill-keeps (t .block .checked) (v .block .checked))
 
 pub kept-mark : (n : ℕ) (t : Station) → n ≤ 1 → ValidStation t → Kept t (withMark n t)
-kept-mark n t l v = kept-block (t .block) n t v (record { nine = v .block .nine; heads = v .block .heads; raw = v .block .raw; checked = v .block .checked }) l
+kept-mark n t l v = kept-block (t .block) n t v (valid-marked n (t .block) (v .block)) l
 
 pub kept-settled : (d : Date) (t : Station) → ValidStation t → Kept t (settledStation d t)
 unfolding settledStation

@@ -22,6 +22,7 @@ use Rattle.store_layout.specs.Updates.{withBlock, withStation}
 use Rattle.store_layout.specs.Index.{indexIn}
 use Rattle.store_layout.specs.Valid.{ValidStore}
 use Rattle.store_layout.proofs.Opened.{can-open, fresh-count, valid-fresh}
+use Rattle.store_layout.proofs.Validity.{valid-marked}
 use Rattle.store_layout.proofs.Stores.{decode-encode}
 use Rattle.rules.specs.Calls.{Call, file, settle, cell, day, Answer, refused, accepted, onRefused}
 use Rattle.rules.specs.Rules.{Date, copyStep, rangeStep, internalStep, timeStep, fillStep, settledStation, dayOf, rule}
@@ -197,7 +198,7 @@ spoiling-marks =
       leaves = spoilt both;
       valid =
           valid-kept 0 _ both valid-both
-          (kept-block _ 1 (stationAt (both .stations) 0) (valid-both .each 0 (omega arith)) (valid-both .each 0 (omega arith) .block) (lit≤ tt));
+          (kept-block _ 1 (stationAt (both .stations) 0) (valid-both .each 0 (omega arith)) (valid-marked 1 _ (valid-both .each 0 (omega arith) .block)) (lit≤ tt));
       bytes = rw (unknown, decode-two);
       number = refl;
       mark = refl;

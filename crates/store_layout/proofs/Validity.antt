@@ -1,6 +1,7 @@
 -- What the calls do to a station keeps it valid.
 --     head-parts, head-whole, entry-parts, entry-whole      what the tests of a slot head and of an entry ask
 --     valid-empty            an empty block
+--     valid-marked           a block under another settled mark
 --     valid-with-slot        a report filed in a slot
 --     valid-with-checked     the checked cells put
 --     valid-with-block       a station's block and settled mark replaced
@@ -88,11 +89,15 @@ valid-empty settled =
       checked = sheet-empty 3 4;
     }
 
+-- ---- the same block under another settled mark
+pub valid-marked : {old : ℕ} (settled : ℕ) (b : Block) → ValidBlock old b → ValidBlock settled b
+valid-marked settled b v = record { nine = v .nine; heads = v .heads; raw = v .raw; checked = v .checked }
+
 -- ---- a report filed in slot k
-pub valid-with-slot : {old : ℕ} (settled k : ℕ) (h : SlotHead) (cells : List Cell) (b : Block) → ValidBlock old b
+pub valid-with-slot : {settled : ℕ} (k : ℕ) (h : SlotHead) (cells : List Cell) (b : Block) → ValidBlock settled b
     → ValidHead h → ((e : ℕ) → e < 9 → RawCell e (getD cells e none)) → ValidBlock settled (withSlot k h cells b)
 unfolding withSlot
-valid-with-slot settled k h cells b v p r =
+valid-with-slot k h cells b v p r =
     record {
       nine = length-set (b .heads) k h ∙ v .nine;
       heads = set-each (λ (j : ℕ). ValidHead) unfiled 9 (b .heads) k h (v .nine) p (v .heads);
@@ -101,10 +106,10 @@ valid-with-slot settled k h cells b v p r =
     }
 
 -- ---- the checked cells put
-pub valid-with-checked : {old : ℕ} (settled : ℕ) (sheet : List (List Cell)) (b : Block) → ValidBlock old b → ValidSheet sheet
+pub valid-with-checked : {settled : ℕ} (sheet : List (List Cell)) (b : Block) → ValidBlock settled b → ValidSheet sheet
     → ValidBlock settled (withChecked sheet b)
 unfolding withChecked
-valid-with-checked settled sheet b v c = record { nine = v .nine; heads = v .heads; raw = v .raw; checked = c }
+valid-with-checked sheet b v c = record { nine = v .nine; heads = v .heads; raw = v .raw; checked = c }
 
 -- ---- a station's block and settled mark replaced
 pub valid-with-block : (b : Block) (settled : ℕ) (t : Station) → ValidStation t → ValidBlock settled b → settled ≤ 1 → ValidStation (withBlock b settled t)
