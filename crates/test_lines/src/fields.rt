@@ -32,7 +32,7 @@ use store_numbers::at::TR_IN;
 use store_numbers::at::YEAR_AT;
 use store_numbers::at::ZERO_AT;
 
-// In the order of FIELDS: where each stands in its record, and how many bytes it has.
+// The fields in the order in which `put` names them: where each stands in its record, and how many bytes it has.
 const FIELD_AT: [usize; 18] = [
     COUNT_AT,
     LIST_OFFSET_AT,
@@ -82,7 +82,7 @@ fn changed(line: &[u8], k: usize, from: u32, other: u32) -> u32
     other
 }
 
-// Where the block at index i of n stations starts; where no block does, the entry at index n.
+// Where the block at index i of n stations starts. With i 0 that is also where the n-th entry starts, if there are more.
 fn block_at(n: usize, i: usize) -> usize
     requires { ⌜ (n ≤ 33) × (i ≤ 33) ⌝ }
     ensures { λ r. ⌜ r ≤ 49999 ⌝ }
