@@ -32,6 +32,7 @@ use test_lines::fields::lend;
 use test_lines::fields::put;
 use test_lines::words;
 use test_lines::words::Kind;
+use test_lines::words::is;
 use test_lines::words::kind_of;
 use test_lines::words::number_of;
 
@@ -45,8 +46,8 @@ fn said(r: Reply) {
 fn open(store: &mut [u8], l: &[u8]) {
     let stations = words::stations_of(l);
     let rows = words::rows_of(l);
-    let n = words::pairs(l, 2);
-    let k = words::pairs(l, 3);
+    let n = words::every_second(l, 4);
+    let k = words::every_second(l, 5);
     let year = number_of(l, 1);
     let month = number_of(l, 2);
     let day = number_of(l, 3);
@@ -56,10 +57,6 @@ fn open(store: &mut [u8], l: &[u8]) {
 fn file(store: &mut [u8], l: &[u8]) {
     let from = words::start(l, 1);
     said(engine::file(store, &l[from..]));
-}
-
-fn settle(store: &mut [u8], station: u32) {
-    said(engine::settle(store, station));
 }
 
 fn cell(store: &[u8], station: u32, element: u32, slot: u32) {
@@ -93,7 +90,7 @@ fn call(store: &mut [u8], n: usize, l: &[u8], a: u32, b: u32, c: u32) {
     match kind_of(l) {
         Kind::Open => open(store, l),
         Kind::File => file(store, l),
-        Kind::Settle => settle(store, a),
+        Kind::Settle => said(engine::settle(store, a)),
         Kind::Cell => cell(store, a, b, c),
         Kind::Element => element(store, a, b),
         Kind::Day => day(store, a),
@@ -104,7 +101,7 @@ fn call(store: &mut [u8], n: usize, l: &[u8], a: u32, b: u32, c: u32) {
 
 // A line's call on the first bytes of the buffer, which comes back as the call leaves it; a comment and `lend` make none.
 fn step(buffer: [u8; ROOM], n: usize, bytes: u32, l: &[u8]) -> [u8; ROOM] {
-    if words::is_silent(l) {
+    if is(l, 0, b"#") | is(l, 0, b"lend") {
         return buffer;
     }
     text(b" ->");

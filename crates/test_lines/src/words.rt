@@ -60,9 +60,18 @@ pub fn is(line: &[u8], k: usize, word: &[u8]) -> bool {
     check::same(&line[a..e], word)
 }
 
-// A comment, or `lend`.
-pub fn is_silent(line: &[u8]) -> bool {
-    is(line, 0, b"#") | is(line, 0, b"lend")
+// Which of 18 words the k-th of a line is; the last one where it is none of the others.
+pub fn which(line: &[u8], k: usize, words: &[u8]) -> usize
+    ensures { λ r. ⌜ r ≤ 17 ⌝ }
+{
+    for j in 0..17 {
+        let a = start(words, j);
+        let e = find(words, b' ', a);
+        if is(line, k, &words[a..e]) {
+            return j;
+        }
+    }
+    17
 }
 
 pub fn kind_of(line: &[u8]) -> Kind {
@@ -90,11 +99,6 @@ pub fn kind_of(line: &[u8]) -> Kind {
     Kind::Other
 }
 
-// A number with one digit more.
-fn more(n: u32, digit: u8) -> u32 {
-    ((n as u64 * 10 + (digit % 16) as u64) % 4294967296) as u32
-}
-
 // The number at a place, up to a space.
 fn number_at(line: &[u8], at: usize) -> u32 {
     let mut n = 0;
@@ -103,70 +107,28 @@ fn number_at(line: &[u8], at: usize) -> u32 {
         if line[i] == b' ' {
             return n;
         }
-        n = more(n, line[i]);
+        n = ((n as u64 * 10 + (line[i] % 16) as u64) % 4294967296) as u32;
         i += 1;
     }
     n
 }
 
-fn is_minus(line: &[u8], at: usize) -> bool {
-    if at < line.len() {
-        return line[at] == b'-';
-    }
-    false
-}
-
-// The k-th word as a number: 0 where there is none; in the last 32 bits where a minus stands before it.
+// The k-th word as a number: 0 where there is none.
 pub fn number_of(line: &[u8], k: usize) -> u32 {
-    let at = start(line, k);
-    if is_minus(line, at) {
-        return ((4294967296 - number_at(line, at + 1) as u64) % 4294967296) as u32;
-    }
-    number_at(line, at)
+    number_at(line, start(line, k))
 }
 
-pub fn least(a: usize, b: usize) -> usize
-    ensures { λ r. ⌜ (r ≤ a) × (r ≤ b) ⌝ }
-{
-    if a < b {
-        return a;
-    }
-    b
-}
-
-// The k-th word as a number up to a limit.
-pub fn up_to(line: &[u8], k: usize, most: usize) -> usize
-    ensures { λ r. ⌜ r ≤ most ⌝ }
-{
-    least(number_of(line, k) as usize, most)
-}
-
-fn space(b: u8) -> usize
-    ensures { λ r. ⌜ r ≤ 1 ⌝ }
-{
-    if b == b' ' {
-        return 1;
-    }
-    0
-}
-
-fn spaces(line: &[u8]) -> usize {
-    let mut n = 0;
-    for i in 0..line.len() {
-        n += space(line[i]);
-    }
-    n
-}
-
-// Half of the words that an `open` line has after so many and one more, up to 33: after the second its stations, after the third its rows.
-pub fn pairs(line: &[u8], after: usize) -> usize
+// How many words an `open` line has of every second one from the k-th on, up to 33.
+pub fn every_second(line: &[u8], k: usize) -> usize
+    requires { ⌜ k ≤ 9 ⌝ }
     ensures { λ r. ⌜ r ≤ 33 ⌝ }
 {
-    let n = spaces(line);
-    if n < after {
-        return 0;
+    for i in 0..33 {
+        if line.len() <= start(line, k + 2 * i) {
+            return i;
+        }
     }
-    least((n - after) / 2, 33)
+    33
 }
 
 // The stations of an `open` line, after its date.

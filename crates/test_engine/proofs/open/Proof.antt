@@ -9,11 +9,11 @@ use Rattle.test_engine.proofs.open.Tie as tie
 use Rattle.test_engine.proofs.open.Reads as reads
 use Rattle.test_engine.proofs.open.Lts as lts
 use Rattle.engine.proofs.open.Reads as open-reads
+use Rattle.test_engine.proofs.said.Reads as said-reads
+use Rattle.test_lines.proofs.words.every_second.Reads as every-second-reads
 use Rattle.test_lines.proofs.words.number_of.Reads as number-of-reads
-use Rattle.test_lines.proofs.words.pairs.Reads as pairs-reads
 use Rattle.test_lines.proofs.words.rows_of.Reads as rows-of-reads
 use Rattle.test_lines.proofs.words.stations_of.Reads as stations-of-reads
-use Rattle.test_engine.proofs.said.Reads as said-reads
 
 stations-of-requires : tie.Need-stations-of-requires
 stations-of-requires c κs = search needs
@@ -21,11 +21,11 @@ stations-of-requires c κs = search needs
 rows-of-requires : tie.Need-rows-of-requires
 rows-of-requires c κs = search needs
 
-pairs-requires : tie.Need-pairs-requires
-pairs-requires c κs = search needs
+every-second-requires : tie.Need-every-second-requires
+every-second-requires c κs = search needs
 
-pairs-requires-2 : tie.Need-pairs-requires-2
-pairs-requires-2 c κs = search needs
+every-second-requires-2 : tie.Need-every-second-requires-2
+every-second-requires-2 c κs = search needs
 
 number-of-requires : tie.Need-number-of-requires
 number-of-requires c κs = search needs
@@ -66,8 +66,8 @@ open-spec =
     (tie.spec
     stations-of-requires
     rows-of-requires
-    pairs-requires
-    pairs-requires-2
+    every-second-requires
+    every-second-requires-2
     number-of-requires
     number-of-requires-2
     number-of-requires-3

@@ -78,9 +78,9 @@ fn put(store: &mut [u8], arguments: &str) {
     let field = *record.fields().iter().find(|field| field.name.as_bytes() == name).expect("a field");
     let words: Vec<&str> = words.map(|word| std::str::from_utf8(word).unwrap()).collect();
     let number = match words[..] {
-        ["more", by] => held(store, record, field) + by.parse::<u32>().expect("a number"),
-        ["less", by] => held(store, record, field) - by.parse::<u32>().expect("a number"),
-        [number] => number.parse::<i64>().expect("a number") as u32,
+        ["more", by] => held(store, record, field).wrapping_add(by.parse().expect("a number")),
+        ["less", by] => held(store, record, field).wrapping_sub(by.parse().expect("a number")),
+        [number] => number.parse().expect("a number"),
         _ => panic!("no number: {arguments}"),
     };
     record.edit(n, field, number).into_iter().for_each(|(at, byte)| store[at] = byte);

@@ -6,7 +6,7 @@ use Rattle.test_lines.proofs.fields.index_of.Statement.{statement}
 use Rattle.test_lines.proofs.fields.index_of.Tie as tie
 use Rattle.test_lines.proofs.fields.index_of.Reads as reads
 use Rattle.test_lines.proofs.fields.index_of.Lts as lts
-use Rattle.test_lines.proofs.fields.entry_at.Reads as entry-at-reads
+use Rattle.test_lines.proofs.fields.block_at.Reads as block-at-reads
 use Rattle.test_lines.proofs.fields.held.Reads as held-reads
 
 abbrev Inv-loop : tie.InvT-loop
@@ -18,11 +18,8 @@ abbrev μ-loop : tie.MeasureT-loop
 loop-holds : tie.Need-loop-holds Inv-loop μ-loop
 loop-holds c = search needs
 
-entry-at-requires : tie.Need-entry-at-requires Inv-loop μ-loop
-entry-at-requires c κs = search needs
-
-add-held : tie.Need-add-held Inv-loop μ-loop
-add-held c = search needs
+block-at-requires : tie.Need-block-at-requires Inv-loop μ-loop
+block-at-requires c κs = search needs
 
 held-requires : tie.Need-held-requires Inv-loop μ-loop
 held-requires c κs = search needs
@@ -49,8 +46,7 @@ index-of-spec =
     Inv-loop
     μ-loop
     loop-holds
-    entry-at-requires
-    add-held
+    block-at-requires
     held-requires
     returns
     add-i
