@@ -76,20 +76,10 @@ fn reports(store: &mut [u8], piece: &mut [u8], from: usize, got: usize) -> Told
 
 // ---- the output
 
-fn refuse() -> bool {
-    io::write_all(libc::STDOUT_FILENO, b"open 10\n")
-}
-
 // A station's line.
 fn print_station(store: &mut [u8], station: u32) -> bool {
     let mut out = [0u8; 160];
     let n = station_text(store, station, &mut out);
-    io::write_all(libc::STDOUT_FILENO, &out[..n])
-}
-
-fn print_refused(refused: u64) -> bool {
-    let mut out = [0u8; 160];
-    let n = refused_text(&mut out, refused);
     io::write_all(libc::STDOUT_FILENO, &out[..n])
 }
 
@@ -116,7 +106,9 @@ fn run_day(store: &mut [u8], piece: &mut [u8], from: usize, got: usize, stations
     if !print_all(store, stations) {
         return false;
     }
-    print_refused(told.refused)
+    let mut out = [0u8; 160];
+    let n = refused_text(&mut out, told.refused);
+    io::write_all(libc::STDOUT_FILENO, &out[..n])
 }
 
 // Room for a store of 32 stations.
@@ -133,7 +125,7 @@ fn run(store: &mut [u8], piece: &mut [u8], from: usize, got: usize, o: Opening) 
     requires { ⌜ length (now store) ≡ storeLength (o .count) ⌝ }
 {
     if !open(store, o) {
-        return refuse();
+        return io::write_all(libc::STDOUT_FILENO, b"open 10\n");
     }
     let n = o.count;
     let stations = o.stations;

@@ -2,9 +2,9 @@
 ghost use lib.ListN.{length};
 ghost use Rattle.io.specs.Counts.{Counts};
 ghost use Rattle.dayline_input.specs.Input.{Gave, Reads, Takes, Begins};
-use dayline_text::cut::find;
 use dayline_text::first_line;
 use dayline_text::first_line::Line;
+use text_bytes::find;
 
 // What a read gave: so many bytes, none at the input's end; or it failed.
 pub struct Got {
@@ -42,7 +42,7 @@ fn take_piece(l: Line, s: &[u8]) -> Taken
     ensures { λ r. ⌜ Takes l (now (s .entry)) r ⌝ }
 {
     let n = s.len();
-    let k = find(s, b'\n');
+    let k = find(s, b'\n', 0);
     let line = first_line::piece(l, &s[..k]);
     if k < n {
         return Taken {

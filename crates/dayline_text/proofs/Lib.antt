@@ -1,5 +1,5 @@
 -- Laws of the places where the input is cut, and of the first line.
-mod Cuts
+pub mod Cuts
 mod Lines
 mod Opening
 mod Examples

@@ -14,5 +14,5 @@ slice-aggregate-run-day c = let a = c .before .before .before .before .before .b
 pub run-spec : {M : Type 1} → statement M
 run-spec =
     tie.close
-    (tie.spec (λ c κs. search needs) (λ c κs. search needs) (λ c. search needs) (λ c. search needs) array-share-prefix-stations
+    (tie.spec (λ c κs. search needs) (λ c. search needs) (λ c κs. search needs) (λ c. search needs) (λ c. search needs) array-share-prefix-stations
     slice-aggregate-run-day (λ c κs. search needs) (λ c. search needs) (λ c. search needs) (λ c. search needs))

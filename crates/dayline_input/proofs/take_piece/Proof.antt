@@ -4,18 +4,19 @@ use borrow.Author.Needs.{needs}
 use mathlib.Core.Path.{refl}
 use lib.ListN.{length}
 use Rattle.dayline_text.proofs.Parts.{counts}
+use Rattle.dayline_text.proofs.Cuts.{found as found-at}
 use Rattle.dayline_input.proofs.Beginnings.{found, whole}
 use Rattle.dayline_input.proofs.take_piece.Statement.{statement}
 use Rattle.dayline_input.proofs.take_piece.Tie as tie
 
 slice-aggregate-piece : tie.Need-slice-aggregate-piece
-slice-aggregate-piece c = counts _ (length (c .before .before .before .args .s .now)) _ (c .before .find .ensures .within) refl
+slice-aggregate-piece c = counts _ (length (c .before .before .before .args .s .now)) _ (c .before .find .ensures .upto) refl
 
 returns : tie.Need-returns
-returns c = found _ _ (c .before .before .before .find .ensures) (c .before .piece .ensures) (search needs) (search needs)
+returns c = found _ _ (found-at (c .before .before .before .find .ensures)) (c .before .piece .ensures) (search needs) (search needs)
 
 returns-2 : tie.Need-returns-2
-returns-2 c = whole _ _ (c .before .before .before .find .ensures) (c .before .piece .ensures) (search needs) (search needs) (search needs)
+returns-2 c = whole _ _ (found-at (c .before .before .before .find .ensures)) (c .before .piece .ensures) (search needs) (search needs) (search needs)
 
 pub take-piece-spec : {M : Type 1} → statement M
 take-piece-spec =
