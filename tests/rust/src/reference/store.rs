@@ -89,6 +89,7 @@ fn u32_at(bytes: &[u8], at: usize) -> u32 {
     u32::from_be_bytes([bytes[at], bytes[at + 1], bytes[at + 2], bytes[at + 3]])
 }
 
+#[inline]
 fn put_u16(bytes: &mut [u8], at: usize, number: u16) {
     bytes[at..at + 2].copy_from_slice(&number.to_be_bytes());
 }
@@ -121,11 +122,11 @@ pub fn sound(store: &[u8]) -> bool {
 }
 
 fn sound_header(store: &[u8], n: usize) -> bool {
-    let [year, month, day] = [YEAR, MONTH, DAY].map(|field| u16_at(store, field.at).into());
+    let (year, month, day) = date_numbers(store);
     u16_at(store, LIST_OFFSET.at) as usize == entry_at(0)
         && u16_at(store, BLOCK_OFFSET.at) as usize == block_at(n, 0)
         && u16_at(store, BLOCK_LENGTH.at) as usize == BLOCK
-        && Date::new(year, month, day).is_some()
+        && Date::new(year.into(), month.into(), day.into()).is_some()
         && u16_at(store, ZERO.at) == 0
 }
 
@@ -206,13 +207,19 @@ pub fn write_fresh(store: &mut [u8], date: Date, stations: &[u32], rows: &[u16])
 // ---- Reading and writing the parts of a sound store ----
 
 /// The number of stations.
+#[inline]
 pub fn stations(store: &[u8]) -> usize {
     u16_at(store, N.at) as usize
 }
 
+#[inline]
+fn date_numbers(store: &[u8]) -> (u16, u16, u16) {
+    (u16_at(store, YEAR.at), u16_at(store, MONTH.at), u16_at(store, DAY.at))
+}
+
 /// The day D.
 pub fn date(store: &[u8]) -> Date {
-    let [year, month, day] = [YEAR, MONTH, DAY].map(|field| u16_at(store, field.at));
+    let (year, month, day) = date_numbers(store);
     Date { year, month: month as u8, day: day as u8 }
 }
 
@@ -234,6 +241,7 @@ pub fn find(store: &[u8], station: u32) -> Result<usize, Refusal> {
     }
 }
 
+#[inline]
 fn number(store: &[u8], index: usize) -> u32 {
     u32_at(store, entry_at(index) + NUMBER.at)
 }
@@ -270,6 +278,7 @@ pub fn head(block: &[u8], slot: usize) -> Head {
     Head::from_bytes(four(block, head_at(slot)))
 }
 
+#[inline]
 pub fn put_head(block: &mut [u8], slot: usize, head: Head) {
     block[head_at(slot)..head_at(slot) + HEAD].copy_from_slice(&head.to_bytes());
 }
@@ -311,6 +320,7 @@ pub fn put_checked(block: &mut [u8], sheet: &Sheet) {
     put_sheet(&mut block[CHECKED..], sheet);
 }
 
+#[inline]
 fn put_sheet(bytes: &mut [u8], sheet: &Sheet) {
     for (bytes, cell) in bytes.chunks_exact_mut(CELL).zip(sheet.as_flattened()) {
         bytes.copy_from_slice(&cell.to_bytes());
