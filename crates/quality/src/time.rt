@@ -3,7 +3,7 @@ ghost use mathlib.Core.Path.{_≡_};
 ghost use Prim.Native.Nat.{_≤_};
 ghost use lib.IntN.{natAbs};
 ghost use Rattle.quality.specs.Coded.{cell};
-ghost use Rattle.quality.specs.Steps.{noNeighbour, spikeCell, timeCell, fillCell};
+ghost use Rattle.quality.specs.Steps.{spikeCell, timeCell, fillCell};
 use crate::column::OffsetCell;
 use crate::column::discard;
 use crate::column::is_missing;
@@ -12,13 +12,6 @@ use crate::value::far;
 use crate::value::middle;
 use crate::value::near;
 use crate::value::negative;
-
-// Whether the cell is no neighbour in time.
-fn no_neighbour(d: OffsetCell) -> bool
-    ensures { λ r. ⌜ r ≡ noNeighbour (cell d) ⌝ }
-{
-    passed_over(d)
-}
 
 // A value x that differs from both neighbours: its negative where that is near both and the element mends, else discarded.
 fn mended(mends: bool, a: OffsetCell, x: OffsetCell, b: OffsetCell) -> OffsetCell
@@ -42,7 +35,7 @@ pub fn time_cell(mends: bool, a: OffsetCell, x: OffsetCell, b: OffsetCell) -> Of
     requires { ⌜ natAbs (cell x .value) ≤ 32767 ⌝ }
     ensures { λ r. ⌜ cell r ≡ timeCell mends (cell a) (cell x) (cell b) ⌝ }
 {
-    let untested = no_neighbour(a) | passed_over(x) | no_neighbour(b);
+    let untested = passed_over(a) | passed_over(x) | passed_over(b);
     if untested {
         return x;
     }
@@ -57,7 +50,7 @@ pub fn time_cell(mends: bool, a: OffsetCell, x: OffsetCell, b: OffsetCell) -> Of
 pub fn fill_cell(a: OffsetCell, x: OffsetCell, b: OffsetCell) -> OffsetCell
     ensures { λ r. ⌜ cell r ≡ fillCell (cell a) (cell x) (cell b) ⌝ }
 {
-    let gap = is_missing(x) & !no_neighbour(a) & !no_neighbour(b);
+    let gap = is_missing(x) & !passed_over(a) & !passed_over(b);
     if gap {
         return OffsetCell {
             state: 3,

@@ -13,13 +13,13 @@ returns c =
     let i = c .before in
     let n = i .before .before in
     rw (← c .middle .ensures)
-    (took _ _ _ (via (and-eq (and-eq (n .before .is-missing .ensures) (ap not (n .no-neighbour .ensures))) (ap not (i .before .no-neighbour2 .ensures))) (i .if1 .taken)))
+    (took _ _ _ (via (and-eq (and-eq (n .before .is-missing .ensures) (ap not (n .passed-over .ensures))) (ap not (i .before .passed-over2 .ensures))) (i .if1 .taken)))
 
 returns-2 : tie.Need-returns-2
 unfolding fillCell
 returns-2 c =
     let n = c .before .before in
-    sym (cond-false _ _ _ (via (and-eq (and-eq (n .before .is-missing .ensures) (ap not (n .no-neighbour .ensures))) (ap not (c .before .no-neighbour2 .ensures))) (c .if1 .left)))
+    sym (cond-false _ _ _ (via (and-eq (and-eq (n .before .is-missing .ensures) (ap not (n .passed-over .ensures))) (ap not (c .before .passed-over2 .ensures))) (c .if1 .left)))
 
 pub fill-cell-spec : {M : Type 1} → statement M
 fill-cell-spec = tie.close (tie.spec (λ c κs. tt) (λ c κs. tt) (λ c κs. tt) (λ c κs. tt) returns returns-2)
