@@ -66,7 +66,7 @@ pub struct Lent {
 }
 
 // Where a record starts, and which word of a line names its field.
-struct Place {
+struct Target {
     at: usize,
     word: usize,
 }
@@ -171,34 +171,34 @@ fn cell_at(line: &[u8]) -> usize
 }
 
 // The record that a line names.
-fn record_of(store: &[u8], n: usize, line: &[u8]) -> Place
+fn record_of(store: &[u8], n: usize, line: &[u8]) -> Target
     requires { ⌜ n ≤ 33 ⌝ }
     ensures { λ r. ⌜ (r .at ≤ 59999) × (r .word ≤ 5) ⌝ }
 {
     if is(line, 1, b"header") {
-        return Place { at: 0, word: 2 };
+        return Target { at: 0, word: 2 };
     }
     let i = index_of(store, n, number_of(line, 2));
     if is(line, 1, b"entry") {
         let at = block_at(i, 0);
-        return Place { at: at, word: 3 };
+        return Target { at: at, word: 3 };
     }
     let block = block_at(n, i);
     if is(line, 1, b"head") {
         let k = number_of(line, 3) as usize % 9;
-        return Place {
+        return Target {
             at: block + HEAD_LENGTH * k,
             word: 4,
         };
     }
     let cell = cell_at(line);
     if is(line, 1, b"raw") {
-        return Place {
+        return Target {
             at: block + RAW_FROM + cell,
             word: 5,
         };
     }
-    Place {
+    Target {
         at: block + CHECKED_FROM + cell,
         word: 5,
     }
