@@ -16,88 +16,16 @@
 //
 // `stdout` was not made by this program. It is what the second reading of the paper in plain Rust prints for the same `stdin`
 // (`tests/rust`, `reference_calls`); the comments in `stdin` say which number the paper's order of tests asks for.
-use engine_answers::CellReply;
-use engine_answers::DayReply;
-use engine_answers::Reply;
 use libc::STDIN_FILENO;
+use test_calls::call;
 use test_cases::compared::ROOM;
 use test_cases::compared::compare;
-use test_cases::print::count;
-use test_cases::print::number;
-use test_cases::print::print_line;
-use test_cases::print::signed;
 use test_cases::print::text;
 use test_lines::fields::Lent;
 use test_lines::fields::lend;
-use test_lines::fields::put;
 use test_lines::words;
-use test_lines::words::Kind;
 use test_lines::words::is;
-use test_lines::words::kind_of;
 use test_lines::words::number_of;
-
-fn said(r: Reply) {
-    match r {
-        Reply::Accepted => text(b" accepted"),
-        Reply::Refused(n) => count(n),
-    }
-}
-
-fn open(store: &mut [u8], l: &[u8]) {
-    let stations = words::stations_of(l);
-    let rows = words::rows_of(l);
-    let n = words::every_second(l, 4);
-    let k = words::every_second(l, 5);
-    let year = number_of(l, 1);
-    let month = number_of(l, 2);
-    let day = number_of(l, 3);
-    said(engine::open(store, year, month, day, &stations[..n], &rows[..k]));
-}
-
-fn file(store: &mut [u8], l: &[u8]) {
-    let from = words::start(l, 1);
-    said(engine::file(store, &l[from..]));
-}
-
-fn cell(store: &[u8], station: u32, element: u32, slot: u32) {
-    match engine::cell(store, station, element, slot) {
-        CellReply::Refused(n) => count(n),
-        CellReply::Cell(c) => {
-            number(c.state as u64);
-            number(c.flag as u64);
-            signed(c.value);
-        }
-    }
-}
-
-fn element(store: &[u8], station: u32, element: u32) {
-    cell(store, station, element, 0);
-    for k in 1..9 {
-        text(b";");
-        cell(store, station, element, k);
-    }
-}
-
-fn day(store: &[u8], station: u32) {
-    match engine::day(store, station) {
-        DayReply::Refused(n) => count(n),
-        DayReply::Line(l) => print_line(l),
-    }
-}
-
-// A line's call on a store of n stations; a, b and c are the numbers of all but `open`, `file` and `put`.
-fn call(store: &mut [u8], n: usize, l: &[u8], a: u32, b: u32, c: u32) {
-    match kind_of(l) {
-        Kind::Open => open(store, l),
-        Kind::File => file(store, l),
-        Kind::Settle => said(engine::settle(store, a)),
-        Kind::Cell => cell(store, a, b, c),
-        Kind::Element => element(store, a, b),
-        Kind::Day => day(store, a),
-        Kind::Put => put(store, n, l),
-        Kind::Other => text(b" no such call"),
-    }
-}
 
 // A line's call on the first bytes of the buffer, which comes back as the call leaves it; a comment and `lend` make none.
 fn step(buffer: [u8; ROOM], n: usize, bytes: u32, l: &[u8]) -> [u8; ROOM] {

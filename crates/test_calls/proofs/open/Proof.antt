@@ -1,15 +1,15 @@
--- `test_engine::open` is safe and ends.
+-- `test_calls::open` is safe and ends.
 -- Assumes nothing.
 use mathlib.Core.Path.{sym}
 use native.Mathlib.Omega.{arith}
 use lib.Seq.{length-take-le}
 use borrow.Author.Needs.{needs}
-use Rattle.test_engine.proofs.open.Statement.{statement}
-use Rattle.test_engine.proofs.open.Tie as tie
-use Rattle.test_engine.proofs.open.Reads as reads
-use Rattle.test_engine.proofs.open.Lts as lts
+use Rattle.test_calls.proofs.open.Statement.{statement}
+use Rattle.test_calls.proofs.open.Tie as tie
+use Rattle.test_calls.proofs.open.Reads as reads
+use Rattle.test_calls.proofs.open.Lts as lts
 use Rattle.engine.proofs.open.Reads as open-reads
-use Rattle.test_engine.proofs.said.Reads as said-reads
+use Rattle.test_calls.proofs.said.Reads as said-reads
 use Rattle.test_lines.proofs.words.every_second.Reads as every-second-reads
 use Rattle.test_lines.proofs.words.number_of.Reads as number-of-reads
 use Rattle.test_lines.proofs.words.rows_of.Reads as rows-of-reads

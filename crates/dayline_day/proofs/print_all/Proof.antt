@@ -1,11 +1,11 @@
--- `print_all` is safe and ends: each turn leaves one station fewer.
+-- `dayline_day::print_all` is safe and ends: each turn leaves one station fewer.
 -- Assumes nothing.
 use borrow.Author.Needs.{needs}
 use mathlib.Core.Path.{_≡_}
 use Prim.Native.Nat.{_-_}
 use lib.ListN.{length}
-use Rattle.dayline.proofs.print_all.Statement.{statement}
-use Rattle.dayline.proofs.print_all.Tie as tie
+use Rattle.dayline_day.proofs.print_all.Statement.{statement}
+use Rattle.dayline_day.proofs.print_all.Tie as tie
 
 abbrev Inv-loop : tie.InvT-loop
 Inv-loop store₀ stations k₀ k-end store k = length store ≡ length store₀

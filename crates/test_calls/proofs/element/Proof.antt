@@ -1,13 +1,13 @@
--- `test_engine::element` is safe and ends.
+-- `test_calls::element` is safe and ends.
 -- Assumes nothing.
 use Prim.Native.Nat.{_-_}
 use borrow.Author.Needs.{needs}
-use Rattle.test_engine.proofs.element.Statement.{statement}
-use Rattle.test_engine.proofs.element.Tie as tie
-use Rattle.test_engine.proofs.element.Reads as reads
-use Rattle.test_engine.proofs.element.Lts as lts
+use Rattle.test_calls.proofs.element.Statement.{statement}
+use Rattle.test_calls.proofs.element.Tie as tie
+use Rattle.test_calls.proofs.element.Reads as reads
+use Rattle.test_calls.proofs.element.Lts as lts
 use Rattle.test_cases.proofs.print.text.Reads as text-reads
-use Rattle.test_engine.proofs.cell.Reads as cell-reads
+use Rattle.test_calls.proofs.cell.Reads as cell-reads
 
 abbrev Inv-loop : tie.InvT-loop
 Inv-loop store station element k₀ t5 k = Unit {0}
