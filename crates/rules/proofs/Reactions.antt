@@ -14,7 +14,7 @@ use Rattle.store_layout.specs.Updates.{withStation}
 use Rattle.store_layout.proofs.Indices.{Found, found}
 use Rattle.rules.specs.Calls.{Call, Answer, accepted, Request, Ask, unnamed, named, ask}
 use Rattle.rules.specs.Rules.{Effect, keeps, makes, rule}
-use Rattle.rules.specs.Reaction.{Reaction, stays, becomes, dateOf, placed, at, reaction}
+use Rattle.rules.specs.Reaction.{Reaction, stays, becomes, dateOf, placed, onStation, at, reaction}
 use Rattle.rules.specs.Runs.{names}
 use Rattle.rules.proofs.Kept.{Kept, valid-kept, AllLawful}
 
@@ -40,7 +40,7 @@ module _ (lawful : AllLawful) (c : Call) (m : Store) (v : ValidStore m) where
         replaced j u (rw e (eq-eqb y (stationAt (m .stations) j .number) (sym (f .named))))
         (lawful .asked c y request e (dateOf m) (stationAt (m .stations) j) u (v .each j (f .inside)) q)
 
-    reacts-at : (p : Index) → indexIn (numbers m) y ≡ p → Reacts c m (at p (λ i. placed (rule (dateOf m) request (stationAt (m .stations) i)) i m))
+    reacts-at : (p : Index) → indexIn (numbers m) y ≡ p → Reacts c m (at p (onStation request m))
     reacts-at nowhere q = same _
     reacts-at (index j) q = reacts-placed j (found m y j q) (rule (dateOf m) request (stationAt (m .stations) j)) refl
 

@@ -5,7 +5,7 @@ use Prim.Native.Nat.{ℕ}
 use Rattle.store_layout.specs.Model.{Store, stationAt}
 use Rattle.store_layout.specs.Index.{Index, nowhere, index, indexIn, numbers}
 use Rattle.store_layout.specs.Updates.{withStation}
-use Rattle.rules.specs.Calls.{Answer, refused, Ask, unnamed, named}
+use Rattle.rules.specs.Calls.{Answer, refused, Request, Ask, unnamed, named}
 use Rattle.rules.specs.Rules.{Date, Effect, keeps, makes, rule}
 
 -- the store stays as it is, and this is the answer; or it becomes this one, and the call is accepted
@@ -16,10 +16,14 @@ pub data Reaction : Type 0 where
 abbrev pub dateOf : Store → Date
 dateOf m = record { year = m .year; month = m .month; day = m .day }
 
--- what a request on the station at index i does
+-- what a station's effect does to the store in which it stands at index i
 abbrev pub placed : Effect → ℕ → Store → Reaction
 placed (keeps a) i m = stays a
 placed (makes t) i m = becomes (withStation i t m)
+
+-- what a request on the station at index i does
+abbrev pub onStation : Request → Store → ℕ → Reaction
+onStation request m i = placed (rule (dateOf m) request (stationAt (m .stations) i)) i m
 
 -- "station not in the store" is 6
 abbrev pub at : Index → (ℕ → Reaction) → Reaction
@@ -29,4 +33,4 @@ at (index i) f = f i
 -- a text that names nobody is refused with its number 1 to 5
 abbrev pub reaction : Ask → Store → Reaction
 reaction (unnamed n) m = stays (refused n)
-reaction (named x request) m = at (indexIn (numbers m) x) (λ i. placed (rule (dateOf m) request (stationAt (m .stations) i)) i m)
+reaction (named x request) m = at (indexIn (numbers m) x) (onStation request m)
