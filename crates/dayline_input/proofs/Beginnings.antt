@@ -1,5 +1,6 @@
 -- The first line, piece by piece: what a piece adds to it, and the whole line.
---     found, whole       a piece with an LF, and one without
+--     found              a piece with an LF
+--     at-end, goes-on    the end of the input, and a piece without an LF
 --     none, more         no piece yet, and a piece without an LF more
 --     begins             the line ends in a piece
 -- Assumes nothing.
@@ -8,7 +9,7 @@ use mathlib.Core.Bool.{Bool, true, false, cond, _||_}
 use mathlib.Core.List.{List, [], _∷_, _++_, append-assoc}
 use Prim.Native.Nat.{ℕ, zero, suc, _+_, _<_, _≤_}
 use native.Mathlib.Omega.{arith}
-use borrow.Author.Tests.{lt-ltb, le-ltb, ltb-true, ltb-false}
+use borrow.Author.Tests.{lt-ltb, le-ltb, eq-eqb, ne-eqb, ltb-true, ltb-false}
 use lib.Dec.{eqb, ltb}
 use lib.ListN.{length, take, length-append}
 use lib.Seq.{take-all}
@@ -37,16 +38,22 @@ module _ (l r : Line) {s : List ℕ} {k : ℕ} (f : Found lineFeed s k) (e : (t 
       here : ltb (index lineFeed s) (length s) ≡ true
       here = ap (λ (j : ℕ). ltb j (length s)) (sym (f .place)) ∙ lt-ltb k (length s) h
 
-  pub whole : {ended : Bool} {from : ℕ} → length s ≤ k → ended ≡ eqb (length s) 0 → from ≡ length s → Takes l s (record { line = r; ended = ended; from = from })
+  whole : {ended : Bool} {from : ℕ} → length s ≤ k → eqb (length s) 0 ≡ ended → from ≡ length s → Takes l s (record { line = r; ended = ended; from = from })
   whole h p q =
       record {
         line = line-taken;
-        ended = p ∙ sym (ap (λ (b : Bool). b || eqb (length s) 0) gone);
+        ended = sym (ap (λ (b : Bool). b || eqb (length s) 0) gone ∙ p);
         from = q ∙ sym (cond-false (ltb (index lineFeed s) (length s)) (index lineFeed s + 1) (length s) gone);
       }
     where
       gone : ltb (index lineFeed s) (length s) ≡ false
       gone = ap (λ (j : ℕ). ltb j (length s)) (sym (f .place)) ∙ le-ltb k (length s) h
+
+  pub at-end : {from : ℕ} → length s ≤ k → length s ≡ 0 → from ≡ length s → Takes l s (record { line = r; ended = true; from = from })
+  at-end h z q = whole h (eq-eqb (length s) 0 z) q
+
+  pub goes-on : {from : ℕ} → length s ≤ k → 0 < length s → from ≡ length s → Takes l s (record { line = r; ended = false; from = from })
+  goes-on h z q = whole h (ne-eqb (length s) 0 (λ (e : length s ≡ 0). omega arith)) q
 
 -- ---- the pieces before
 index-append : (b : ℕ) (xs ys : List ℕ) → index b xs ≡ length xs → index b (xs ++ ys) ≡ length xs + index b ys

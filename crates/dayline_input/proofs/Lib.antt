@@ -1,2 +1,3 @@
--- The laws behind the reading of the first line.
+-- The laws behind what a read gave and the reading of the first line.
+pub mod Answers
 pub mod Beginnings

@@ -16,9 +16,16 @@ pub struct Got {
 fn got_of(answer: isize, piece: &[u8]) -> Got
     ensures { λ r. ⌜ Gave answer (length (now (piece .entry))) r ⌝ }
 {
+    let count = io::count(answer, piece);
+    if answer < 0 {
+        return Got {
+            count: count,
+            failed: true,
+        };
+    }
     Got {
-        count: io::count(answer, piece),
-        failed: answer < 0,
+        count: count,
+        failed: false,
     }
 }
 
@@ -51,9 +58,16 @@ fn take_piece(l: Line, s: &[u8]) -> Taken
             from: k + 1,
         };
     }
+    if n == 0 {
+        return Taken {
+            line: line,
+            ended: true,
+            from: 0,
+        };
+    }
     Taken {
         line: line,
-        ended: n == 0,
+        ended: false,
         from: n,
     }
 }

@@ -39,7 +39,8 @@ fn decimal(out: &mut [u8], at: usize, n: u64) -> usize
     if n < 10 {
         return put(out, at, last_digit(n));
     }
-    let m = decimal(out, at, n / 10);
+    let tens = n / 10;
+    let m = decimal(out, at, tens);
     put(out, m, last_digit(n))
 }
 

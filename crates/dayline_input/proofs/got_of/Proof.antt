@@ -1,21 +1,21 @@
 -- `dayline_input::got_of` meets its contract.
 -- Assumes nothing.
 use borrow.Author.Needs.{needs}
-use mathlib.Core.Path.{_≡_, _∙_, ap}
-use lib.IntN.{ℤ}
-use lib.ListN.{length}
 use mir.Syntax.{w64}
-use mir.Val.{toZ, ofZ}
 use mir.Facts.{toZ-ofZ}
-use Rattle.io.specs.Counts.{clamped}
+use Rattle.dayline_input.proofs.Answers.{below, not-below, gave}
 use Rattle.dayline_input.proofs.got_of.Statement.{statement}
 use Rattle.dayline_input.proofs.got_of.Tie as tie
 
 returns : tie.Need-returns
 returns c =
-    let a = c .before .before .args in
-    let z : toZ w64 (ofZ w64 (a .answer)) ≡ a .answer = toZ-ofZ {w = w64} (search needs) in
-    record { count = c .count .ensures .1 ∙ ap (λ (z : ℤ). clamped z (length (a .piece .now))) z; upto = c .count .ensures .0 .0; failed = search needs }
+    let n = c .before .count .ensures in
+    gave (toZ-ofZ {w = w64} (search needs)) (n .1) (n .0 .0) (search (needs, below, c .if1 .taken))
+
+returns-2 : tie.Need-returns-2
+returns-2 c =
+    let n = c .before .count .ensures in
+    gave (toZ-ofZ {w = w64} (search needs)) (n .1) (n .0 .0) (search (needs, not-below, c .if1 .left))
 
 pub got-of-spec : {M : Type 1} → statement M
-got-of-spec = tie.close (tie.spec (λ c κs. search needs) returns)
+got-of-spec = tie.close (tie.spec (λ c κs. search needs) returns returns-2)
