@@ -46,7 +46,7 @@ pub fn is_date(year: u32, month: u32, day: u32) -> bool
 }
 
 // The day of the month of the day after.
-pub fn next_day(year: u32, month: u32, day: u32) -> u32
+fn next_day(year: u32, month: u32, day: u32) -> u32
     ensures { λ r. ⌜ r ≡ nextDay year month day ⌝ }
 {
     if day < days_in(year, month) {

@@ -11,15 +11,8 @@ use dayline_filing::open;
 use dayline_input::first_line;
 use dayline_text::first_line::Opening;
 use dayline_text::first_line::opened;
-use store_numbers::at::LONGEST_STORE;
 use store_numbers::at::store_length;
-
-// Room for a store of 32 stations.
-fn store_space() -> [u8; LONGEST_STORE]
-    ensures { λ r. ⌜ storeLength 32 ≡ length r ⌝ }
-{
-    [0; LONGEST_STORE]
-}
+use store_numbers::at::store_space;
 
 // The day of the stations that the first line names.
 fn run(store: &mut [u8], piece: &mut [u8], from: usize, got: usize, o: Opening) -> bool

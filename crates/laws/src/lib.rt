@@ -1,15 +1,8 @@
-// What several crates share: bytes read as numbers, signed numbers and their size, and, in specs/ and proofs/, the definitions
+// What several crates share: signed numbers and their size, and, in specs/ and proofs/, the definitions
 // and laws that their contracts and proofs cite.
 ghost use mathlib.Core.Path.{_≡_};
 ghost use Prim.Native.Nat.{_<_};
 ghost use lib.IntN.{natAbs, subℕ};
-
-// A byte as a number, with its bound.
-pub fn wide(x: u8) -> usize
-    ensures { λ r. ⌜ (r ≡ x) × (r < 256) ⌝ }
-{
-    x as usize
-}
 
 // n − offset: from offset binary to a signed number.
 pub fn difference(n: u32, offset: u32) -> i32

@@ -6,4 +6,4 @@ pub mod internal;
 pub mod limits;
 pub mod range;
 pub mod time;
-pub mod value;
+mod value;

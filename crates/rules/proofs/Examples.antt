@@ -24,6 +24,7 @@ use Rattle.synop_codes.specs.Tables
 use Rattle.synop_figures.specs.Digits
 use Rattle.synop_figures.specs.Elements
 use Rattle.synop_figures.specs.Indicators
+use Rattle.synop_figures.specs.OneGroup
 use Rattle.synop_codes.specs.Value.{missing, read}
 use Rattle.synop_contents.specs.Parts
 use Rattle.synop_contents.specs.Contents
@@ -85,9 +86,10 @@ unfolding whole neighbour small bytes bytesFrom table
     Digits.two Digits.three Digits.four
     Tables.temperatureOf Elements.temperature Tables.pressureOf Elements.pressure Tables.windOf Elements.windFf Elements.windFff Tables.cloudOf Elements.cloud Tables.visibilityOf Elements.visibility Tables.rainOf Elements.rain
     Tables.rainIndicatorOf Indicators.rainIndicator Tables.windDirectionOf Indicators.windDirection Indicators.rainDurationOf Indicators.rainDuration
-    Contents.charactersOf Contents.twoOf Contents.stationOf Contents.identificationOf Contents.indicatorsOf Contents.temperatureOf Contents.pressureOf Contents.cloudOf Contents.visibilityOf Contents.rainOf Contents.ffOf Contents.windOf Contents.valuesOf
+    OneGroup.charactersOf OneGroup.temperature OneGroup.pressure OneGroup.windFf OneGroup.windFff OneGroup.cloud OneGroup.visibility OneGroup.rain OneGroup.rainIndicator OneGroup.rainDuration OneGroup.windDirection
+    Contents.twoOf Contents.stationOf Contents.identificationOf Contents.indicatorsOf Contents.windOf Contents.valuesOf
     Parts.ofOne Parts.ofThree Parts.ofLater Parts.first Parts.parts
-    Report.valuesIn Report.content Report.read Report.report
+    Report.content Report.read Report.report
 asks = (refl, refl, refl)
 
 -- ---- the calls

@@ -78,7 +78,7 @@ fn blank() -> Column {
 }
 
 // The nine cells of an element.
-pub fn column_of(block: &[u8], area: Area, element: usize) -> Column
+fn column_of(block: &[u8], area: Area, element: usize) -> Column
     requires { ⌜ (length (now block) ≡ blockLength) × (element < 9) ⌝ }
     ensures { λ r. ⌜ cells r ≡ column (sheetIn area (decodeBlock (now (block .entry)))) element ⌝ }
 {
@@ -161,7 +161,7 @@ pub fn put_slot(block: &mut [u8], k: usize, h: SlotHead, raw: [OffsetCell; 9])
 }
 
 // Another checked column of an element.
-pub fn put_checked(block: &mut [u8], element: usize, c: Column)
+fn put_checked(block: &mut [u8], element: usize, c: Column)
     requires { ⌜ (length (now block) ≡ blockLength) × (element < 9) ⌝ }
     ensures { λ _. ⌜ decodeBlock (now (block .exit)) ≡ withColumn Area.Checked element (cells c) (decodeBlock (now (block .entry))) ⌝ }
 {

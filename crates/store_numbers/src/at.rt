@@ -1,6 +1,7 @@
 // Where things lie in the store, in bytes: the code's names for the definitions of store_layout's Layout.antt.
 ghost use mathlib.Core.Path.{_≡_};
 ghost use Prim.Native.Nat.{_≤_};
+ghost use lib.ListN.{length};
 ghost use Rattle.store_layout.specs.Layout.{entryAt, blockAt, storeLength};
 ghost use Rattle.store_numbers.specs.Room.{room};
 
@@ -91,4 +92,11 @@ pub fn store_length(n: usize) -> usize
     ensures { λ r. ⌜ r ≡ storeLength n ⌝ }
 {
     block_at(n, n)
+}
+
+// Room for a store of 32 stations.
+pub fn store_space() -> [u8; LONGEST_STORE]
+    ensures { λ r. ⌜ storeLength 32 ≡ length r ⌝ }
+{
+    [0; LONGEST_STORE]
 }

@@ -15,8 +15,9 @@ use Rattle.synop_order.specs.Places.{isNil}
 use Rattle.synop_order.specs.declared.Place.{Place}
 use Rattle.laws.proofs.Bools.{via}
 use Rattle.synop_contents.specs.Parts as parts
-use Rattle.synop_contents.specs.Contents.{identificationOf, indicatorsOf}
-use Rattle.synop.specs.Report.{refused, nil, whole, part, rainGroup, valuesIn, content, read, report}
+use Rattle.synop_contents.specs.Parts.{part}
+use Rattle.synop_contents.specs.Contents.{identificationOf, indicatorsOf, valuesOf}
+use Rattle.synop.specs.Report.{refused, nil, whole, rainGroup, content, read, report}
 use Rattle.synop_contents.specs.declared.Identification.{Identification}
 use Rattle.synop_contents.specs.declared.Indicators.{Indicators}
 
@@ -26,7 +27,7 @@ module _ (kept : List Group) where
     unfolding content
     as-nil t = rw (via eb t, eh)
 
-    pub as-whole : b ≡ false → {g : Group} {d : Indicators} {v : List codes.Value} → g ≡ rainGroup kept → d ≡ indicatorsOf (part kept parts.visibility) (part kept parts.wind) g → v ≡ valuesIn kept g
+    pub as-whole : b ≡ false → {g : Group} {d : Indicators} {v : List codes.Value} → g ≡ rainGroup kept → d ≡ indicatorsOf (part kept parts.visibility) (part kept parts.wind) g → v ≡ valuesOf kept g
         → whole h d v ≡ content p kept
     unfolding content
     as-whole t eg ed ev = rw (via eb t, eh, ed, ev, eg)

@@ -13,6 +13,7 @@ use Rattle.synop_codes.specs.Tables as tables
 use Rattle.synop_figures.specs.Digits.{two, three, four}
 use Rattle.synop_figures.specs.Elements as elements
 use Rattle.synop_figures.specs.Indicators as indicators
+use Rattle.synop_figures.specs.OneGroup as group
 use Rattle.synop_codes.specs.Value.{missing, read}
 use Rattle.synop_text.specs.Characters.{areFigures}
 use Rattle.synop_text.specs.Groups.{cut}
@@ -59,5 +60,5 @@ pub record Examples : Type 0 where
   pub dry : report (bytes "AAXX 11061 40001 3//// /////=") ≡ no-rain false
 
 pub examples : Examples
-unfolding bytes bytesFrom table two three four elements.temperature tables.temperatureOf elements.pressure tables.pressureOf elements.windFf tables.windOf elements.cloud tables.cloudOf elements.visibility tables.visibilityOf elements.rain tables.rainOf indicators.rainIndicator tables.rainIndicatorOf indicators.windDirection tables.windDirectionOf indicators.rainDuration indicators.rainDurationOf areFigures cut kinds.kindOf kinds.ofThree kinds.ofFour kinds.ofFive places.aaxxAfter places.opened places.ordered places.firstOfOne places.final places.complete ended check1 isKnown check2 areDigits shapedFrom isDay isHour isUnit isTime isStation rangedFrom ofGroups refusal contents.charactersOf contents.twoOf contents.stationOf contents.identificationOf contents.indicatorsOf contents.temperatureOf contents.pressureOf contents.cloudOf contents.visibilityOf contents.rainOf contents.ffOf contents.windOf contents.valuesOf parts.ofOne parts.ofThree parts.ofLater parts.first parts.parts reports.valuesIn reports.content reports.read report
+unfolding bytes bytesFrom table two three four elements.temperature tables.temperatureOf elements.pressure tables.pressureOf elements.windFf tables.windOf elements.cloud tables.cloudOf elements.visibility tables.visibilityOf elements.rain tables.rainOf indicators.rainIndicator tables.rainIndicatorOf indicators.windDirection tables.windDirectionOf indicators.rainDuration indicators.rainDurationOf areFigures cut kinds.kindOf kinds.ofThree kinds.ofFour kinds.ofFive places.aaxxAfter places.opened places.ordered places.firstOfOne places.final places.complete ended check1 isKnown check2 areDigits shapedFrom isDay isHour isUnit isTime isStation rangedFrom ofGroups refusal group.charactersOf group.temperature group.pressure group.windFf group.windFff group.cloud group.visibility group.rain group.rainIndicator group.rainDuration group.windDirection contents.twoOf contents.stationOf contents.identificationOf contents.indicatorsOf contents.windOf contents.valuesOf parts.ofOne parts.ofThree parts.ofLater parts.first parts.parts reports.content reports.read report
 examples = record { one = refl; two = refl; three = refl; four = refl; five = refl; day = refl; slashes = refl; later = refl; run = refl; dry = refl }

@@ -27,11 +27,13 @@ use Rattle.synop_checks.specs.Refusal.{ofGroups, refusal}
 use Rattle.synop_order.specs.declared.Place.{Place}
 use Rattle.synop_order.specs.declared.Place.the-variants.{Start, Station}
 use Rattle.synop_contents.specs.Parts as parts
+use Rattle.synop_contents.specs.Parts.{part}
 use Rattle.synop_contents.specs.Parts.{first}
-use Rattle.synop_contents.specs.Contents.{charactersOf, numberOf, twoOf, stationOf, identificationOf}
+use Rattle.synop_contents.specs.Contents.{numberOf, twoOf, stationOf, identificationOf}
+use Rattle.synop_figures.specs.OneGroup.{charactersOf}
 use Rattle.synop_contents.proofs.Numbers.{number-below}
 use Rattle.synop_contents.proofs.ContentRanges.{IndicatorsFit, ValuesFit, indicators-fit, values-fit}
-use Rattle.synop.specs.Report.{Report, refused, nil, whole, part, rainGroup, valuesIn, content, read, report}
+use Rattle.synop.specs.Report.{Report, refused, nil, whole, rainGroup, content, read, report}
 use Rattle.synop_contents.specs.declared.Identification.{Identification}
 
 -- ---- the ranges
@@ -175,7 +177,7 @@ unfolding parts.parts table first places.aaxxAfter
 heading-named gs (begins a b c d e f g h i j rest time digits station) = named a b c d e f g h i j time digits station
 
 content-in-range : (gs : List Group) (p : Place) → Begins gs → InRange (content p (parts.parts gs))
-unfolding content valuesIn
+unfolding content
 content-in-range gs p b =
     let kept = parts.parts gs in
     let group = part kept in
@@ -183,9 +185,7 @@ content-in-range gs p b =
     (λ _. (
       heading-named gs b,
       indicators-fit (group parts.visibility) (group parts.wind) (rainGroup kept),
-      values-fit (group parts.time) (group parts.visibility) (group parts.wind) (group parts.gale) (group parts.temperature) (group parts.dewPoint) (group parts.pressure) (rainGroup kept)
-          (group parts.maximum)
-          (group parts.minimum),
+      values-fit kept (rainGroup kept),
     ))
 
 -- the checks that a text passes whose number is 0, and the most that the number can be

@@ -4,17 +4,15 @@ use mathlib.Core.Bool.{Bool, cond, _&&_}
 use mathlib.Core.List.{List}
 use Prim.Native.Nat.{ℕ}
 use lib.Dec.{eqb}
-use lib.ListN.{getD}
 use Rattle.synop_codes.specs.Value as codes
 use Rattle.synop_text.specs.Kinds.{tokens}
 use Rattle.synop_text.specs.declared.Group.{Group}
-use Rattle.synop_text.specs.declared.Group.the-variants.{Other}
 use Rattle.synop_order.specs.Places.{begun, isNil, final, complete}
 use Rattle.synop_checks.specs.Refusal.{ofGroups, refusal}
 use Rattle.synop_order.specs.declared.Place.{Place}
 use Rattle.synop_order.specs.declared.Place.the-variants.{Start}
 use Rattle.synop_contents.specs.Parts as parts
-use Rattle.synop_contents.specs.Parts.{firstOf}
+use Rattle.synop_contents.specs.Parts.{part, firstOf}
 use Rattle.synop_contents.specs.Contents.{identificationOf, indicatorsOf, valuesOf, listed}
 use Rattle.synop_contents.specs.declared.Identification.{Identification}
 use Rattle.synop_contents.specs.declared.Indicators.{Indicators}
@@ -27,23 +25,9 @@ pub data Report : Type 0 where
   whole : Identification → Indicators → List codes.Value → Report
 
 -- ---- the parts together
-abbrev pub part : List Group → ℕ → Group
-part kept k = getD kept k Other
-
 -- "6RRRtR of section 1, or, where that group is not there, of section 3"
 abbrev pub rainGroup : List Group → Group
 rainGroup kept = firstOf (part kept parts.rain) (part kept parts.laterRain)
-
--- the nine values, where rain is read from the group `rain`
-unfoldable pub valuesIn : List Group → Group → List codes.Value
-valuesIn kept rain =
-    valuesOf (part kept parts.time) (part kept parts.visibility) (part kept parts.wind) (part kept parts.gale)
-    (part kept parts.temperature)
-    (part kept parts.dewPoint)
-    (part kept parts.pressure)
-    rain
-    (part kept parts.maximum)
-    (part kept parts.minimum)
 
 -- ---- what a text is
 -- a report that passes, by the place of its last group and its parts
@@ -52,7 +36,7 @@ content p kept =
     cond (isNil p) (nil (identificationOf (part kept parts.time) (part kept parts.station)))
     (whole (identificationOf (part kept parts.time) (part kept parts.station))
     (indicatorsOf (part kept parts.visibility) (part kept parts.wind) (rainGroup kept))
-    (valuesIn kept (rainGroup kept)))
+    (valuesOf kept (rainGroup kept)))
 
 -- n is the number of the first check that fails, or 0
 unfoldable pub read : ℕ → List Group → Report

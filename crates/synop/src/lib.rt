@@ -8,16 +8,10 @@ ghost use Rattle.synop.specs.Report as reports;
 use synop_contents::Identification;
 use synop_contents::Indicators;
 use synop_contents::Values;
-use synop_contents::parts::DEW_POINT;
-use synop_contents::parts::GALE;
 use synop_contents::parts::LATER_RAIN;
-use synop_contents::parts::MAXIMUM;
-use synop_contents::parts::MINIMUM;
 use synop_contents::parts::PARTS;
-use synop_contents::parts::PRESSURE;
 use synop_contents::parts::RAIN;
 use synop_contents::parts::STATION;
-use synop_contents::parts::TEMPERATURE;
 use synop_contents::parts::TIME;
 use synop_contents::parts::VISIBILITY;
 use synop_contents::parts::WIND;
@@ -35,26 +29,6 @@ pub enum Report {
     Whole(Identification, Indicators, Values),
 }
 
-// ---- what the parts hold
-
-// The nine values, where rain is read from the group `rain`.
-fn values_in(kept: [Group; PARTS], rain: Group) -> Values
-    ensures { λ r. ⌜ listed r ≡ reports.valuesIn kept rain ⌝ }
-{
-    synop_contents::values_of(
-        kept[TIME],
-        kept[VISIBILITY],
-        kept[WIND],
-        kept[GALE],
-        kept[TEMPERATURE],
-        kept[DEW_POINT],
-        kept[PRESSURE],
-        rain,
-        kept[MAXIMUM],
-        kept[MINIMUM],
-    )
-}
-
 // A report that passes, by the place of its last group and its parts.
 fn content(p: Place, kept: [Group; PARTS]) -> Report
     ensures { λ r. ⌜ reports.meaning r ≡ reports.content p kept ⌝ }
@@ -65,7 +39,11 @@ fn content(p: Place, kept: [Group; PARTS]) -> Report
     }
     let rain = first_of(kept[RAIN], kept[LATER_RAIN]);
     let indicators = synop_contents::indicators_of(kept[VISIBILITY], kept[WIND], rain);
-    Report::Whole(identification, indicators, values_in(kept, rain))
+    Report::Whole(
+        identification,
+        indicators,
+        synop_contents::values_of(kept, rain),
+    )
 }
 
 // What the groups that were walked are: the first check that fails, or the content.

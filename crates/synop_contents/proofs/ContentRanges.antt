@@ -1,15 +1,18 @@
 -- What callers need of the groups' contents: whatever the groups are, the indicators and the values are in their ranges.
 -- Assumes nothing.
 use mathlib.Core.Path.{_≡_, refl}
+use mathlib.Core.Bool.{Bool, true, false, cond}
 use mathlib.Core.List.{List, [], _∷_}
 use Prim.Native.Nat.{_≤_}
 use lib.ListN.{length}
 use Rattle.synop_codes.specs.Value.{Value, Within}
 use Rattle.synop_codes.proofs.CodeRanges.{Direction}
+use Rattle.synop_figures.specs.OneGroup as group
 use Rattle.synop_figures.proofs.FigureRanges as bounds
 use Rattle.synop_text.specs.declared.Group.{Group}
-use Rattle.synop_text.specs.declared.Group.the-variants.{Other, Aaxx, Nil, Section, Five}
-use Rattle.synop_contents.specs.Contents.{charactersOf, indicatorsOf, temperatureOf, pressureOf, cloudOf, visibilityOf, rainOf, ffOf, windOf, valuesOf}
+use Rattle.synop_contents.specs.Parts as parts
+use Rattle.synop_contents.specs.Parts.{part, isSent}
+use Rattle.synop_contents.specs.Contents.{indicatorsOf, windOf, valuesOf}
 use Rattle.synop_contents.specs.declared.Indicators.{Indicators}
 
 -- iR 0 to 5, tR 0 to 9, dd 0 to 36, 99 or 100
@@ -31,64 +34,36 @@ pub record ValuesFit (vs : List Value) : Type 0 where
 pub indicators-fit : (visibility wind rain : Group) → IndicatorsFit (indicatorsOf visibility wind rain)
 unfolding indicatorsOf
 indicators-fit visibility wind rain =
-    let v = charactersOf visibility in
-    let w = charactersOf wind in
-    let x = charactersOf rain in
-    record {
-      indicator = bounds.rainIndicator-range (v .a);
-      duration = bounds.rainDuration-range (x .b) (x .c) (x .d) (x .e);
-      direction = bounds.windDirection-range (w .b) (w .c);
-    }
-
-temperature-within : (g : Group) → Within (temperatureOf g)
-unfolding temperatureOf
-temperature-within g = let x = charactersOf g in bounds.temperature-within (x .b) (x .c) (x .d) (x .e)
-
-pressure-within : (g : Group) → Within (pressureOf g)
-unfolding pressureOf
-pressure-within g = let x = charactersOf g in bounds.pressure-within (x .b) (x .c) (x .d) (x .e)
-
-cloud-within : (g : Group) → Within (cloudOf g)
-unfolding cloudOf
-cloud-within g = bounds.cloud-within (charactersOf g .a)
-
-visibility-within : (g : Group) → Within (visibilityOf g)
-unfolding visibilityOf
-visibility-within g = let x = charactersOf g in bounds.visibility-within (x .d) (x .e)
-
-rain-within : (g : Group) → Within (rainOf g)
-unfolding rainOf
-rain-within g = let x = charactersOf g in bounds.rain-within (x .b) (x .c) (x .d)
-
-ff-within : (time wind : Group) → Within (ffOf time wind)
-unfolding ffOf
-ff-within time wind = let x = charactersOf wind in bounds.windFf-within (charactersOf time .e) (x .d) (x .e)
+    record { indicator = bounds.rainIndicator-range visibility; duration = bounds.rainDuration-range rain; direction = bounds.windDirection-range wind }
 
 wind-within : (time wind gale : Group) → Within (windOf time wind gale)
 unfolding windOf
-wind-within time wind Other = ff-within time wind
-wind-within time wind Aaxx = ff-within time wind
-wind-within time wind Nil = ff-within time wind
-wind-within time wind (Section m) = ff-within time wind
-wind-within time wind (Five a b c d e) = bounds.windFff-within (charactersOf time .e) c d e
+wind-within time wind gale = either (isSent gale) (group.windFff time gale) (group.windFf time wind) (bounds.windFff-within time gale) (bounds.windFf-within time wind)
+  where
+    either : (b : Bool) (v w : Value) → Within v → Within w → Within (cond b v w)
+    either true v w h k = h
+    either false v w h k = k
 
-pub values-fit : (time visibility wind gale temperature dewPoint pressure rain maximum minimum : Group)
-    → ValuesFit (valuesOf time visibility wind gale temperature dewPoint pressure rain maximum minimum)
+pub values-fit : (kept : List Group) (rain : Group) → ValuesFit (valuesOf kept rain)
 unfolding valuesOf
-values-fit time visibility wind gale temperature dewPoint pressure rain maximum minimum =
+values-fit kept rain =
+    let g = part kept in
     record {
       nine = refl;
       each = (
-        temperature-within temperature,
+        bounds.temperature-within (g parts.temperature),
         (
-          temperature-within dewPoint,
+          bounds.temperature-within (g parts.dewPoint),
           (
-            pressure-within pressure,
+            bounds.pressure-within (g parts.pressure),
             (
-              wind-within time wind gale,
+              wind-within (g parts.time) (g parts.wind) (g parts.gale),
               (
-                cloud-within wind,
-                (visibility-within visibility, (rain-within rain, (temperature-within maximum, (temperature-within minimum, tt)))),
+                bounds.cloud-within (g parts.wind),
+                (
+                  bounds.visibility-within (g parts.visibility),
+                  (bounds.rain-within rain, (bounds.temperature-within (g parts.maximum), (bounds.temperature-within (g parts.minimum), tt))),
+                ),
               ),
             ),
           ),

@@ -4,6 +4,7 @@ use mathlib.Core.Bool.{Bool, true, false, not, cond, _&&_}
 use mathlib.Core.List.{List, [], _∷_}
 use Prim.Native.Nat.{ℕ}
 use lib.Dec.{eqb}
+use lib.ListN.{getD}
 use Rattle.laws.specs.Table.{table}
 use Rattle.synop_text.specs.Kinds.{onFive}
 use Rattle.synop_text.specs.declared.Group.{Group}
@@ -98,6 +99,10 @@ firstOf Aaxx h = Aaxx
 firstOf Nil h = Nil
 firstOf (Section m) h = Section m
 firstOf (Five a b c d e) h = Five a b c d e
+
+-- part k of the parts that are kept, `Other` where the report has none
+abbrev pub part : List Group → ℕ → Group
+part kept k = getD kept k Other
 
 -- the report has the part, be its characters `/` or not
 abbrev pub isSent : Group → Bool

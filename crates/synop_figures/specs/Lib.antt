@@ -2,3 +2,4 @@
 pub mod Digits
 pub mod Elements
 pub mod Indicators
+pub mod OneGroup

@@ -1,10 +1,10 @@
-// What the characters of one SYNOP group mean: the numbers that its figures give, and by the code tables the values of the
-// elements and what a slot's head keeps. Which characters these are is found elsewhere. Every character is answered: one that
-// should be a digit and is none counts as `/`.
+// What one SYNOP group means: the numbers that its figures give, and by the code tables the values of the elements and what a
+// slot's head keeps. Which group is which is found elsewhere. Every group is answered: a character that should be a digit and is
+// none counts as `/`.
 ghost use mathlib.Core.Path.{_≡_};
 ghost use Rattle.synop_codes.specs.Value.{meaning};
 ghost use Rattle.synop_figures.specs.Digits as digits;
-ghost use Rattle.synop_figures.specs.Elements as elements;
+ghost use Rattle.synop_figures.specs.OneGroup as group;
 ghost use Rattle.synop_figures.specs.Indicators as indicators;
 use synop_codes::Value;
 use synop_codes::cloud_of;
@@ -15,6 +15,7 @@ use synop_codes::rain_of;
 use synop_codes::temperature_of;
 use synop_codes::visibility_of;
 use synop_codes::wind_of;
+use synop_text::Group;
 
 // What characters give that should be digits: their number, or that one of them is no digit, as `/`.
 pub enum Number {
@@ -56,7 +57,7 @@ pub fn two(a: u8, b: u8) -> Number
     joined(digit(a), digit(b))
 }
 
-pub fn three(a: u8, b: u8, c: u8) -> Number
+fn three(a: u8, b: u8, c: u8) -> Number
     ensures { λ r. ⌜ r ≡ digits.three a b c ⌝ }
 {
     joined(two(a, b), digit(c))
@@ -68,73 +69,114 @@ pub fn four(a: u8, b: u8, c: u8, d: u8) -> Number
     joined(three(a, b, c), digit(d))
 }
 
+// ---- the characters of a group
+
+// The five characters of a group.
+pub struct Characters {
+    pub a: u8,
+    pub b: u8,
+    pub c: u8,
+    pub d: u8,
+    pub e: u8,
+}
+
+// Of a group that is not there: zeros, which are no digits.
+const NO_CHARACTERS: Characters = Characters {
+    a: 0,
+    b: 0,
+    c: 0,
+    d: 0,
+    e: 0,
+};
+
+// The characters of a group of five.
+pub fn characters_of(g: Group) -> Characters
+    ensures { λ r. ⌜ r ≡ group.charactersOf g ⌝ }
+{
+    match g {
+        Group::Other => NO_CHARACTERS,
+        Group::Aaxx => NO_CHARACTERS,
+        Group::Nil => NO_CHARACTERS,
+        Group::Section(_) => NO_CHARACTERS,
+        Group::Five(a, b, c, d, e) => Characters { a, b, c, d, e },
+    }
+}
+
 // ---- values of the elements
 
-// T, D, X and M, from the sign and three digits: tenths of °C.
-pub fn temperature(sign: u8, a: u8, b: u8, c: u8) -> Value
-    ensures { λ r. ⌜ meaning r ≡ elements.temperature sign a b c ⌝ }
+// T, D, X and M, from 1sTTT or 2sTTT: tenths of °C.
+pub fn temperature(g: Group) -> Value
+    ensures { λ r. ⌜ meaning r ≡ group.temperature g ⌝ }
 {
-    match three(a, b, c) {
+    let x = characters_of(g);
+    match three(x.c, x.d, x.e) {
         Number::Slash => Value::Missing,
-        Number::Digits(n) => temperature_of(sign, n),
+        Number::Digits(n) => temperature_of(x.b, n),
     }
 }
 
-// P, from PPPP: tenths of hPa.
-pub fn pressure(a: u8, b: u8, c: u8, d: u8) -> Value
-    ensures { λ r. ⌜ meaning r ≡ elements.pressure a b c d ⌝ }
+// P, from 4PPPP: tenths of hPa.
+pub fn pressure(g: Group) -> Value
+    ensures { λ r. ⌜ meaning r ≡ group.pressure g ⌝ }
 {
-    match four(a, b, c, d) {
+    let x = characters_of(g);
+    match four(x.b, x.c, x.d, x.e) {
         Number::Slash => Value::Missing,
-        Number::Digits(n) => pressure_of(a, n),
+        Number::Digits(n) => pressure_of(x.b, n),
     }
 }
 
-// W, from iw and ff: tenths of m/s.
-pub fn wind_ff(iw: u8, a: u8, b: u8) -> Value
-    ensures { λ r. ⌜ meaning r ≡ elements.windFf iw a b ⌝ }
+// W, from iw of YYGGiw and ff of Nddff: tenths of m/s.
+pub fn wind_ff(time: Group, wind: Group) -> Value
+    ensures { λ r. ⌜ meaning r ≡ group.windFf time wind ⌝ }
 {
-    match two(a, b) {
-        Number::Slash => Value::Missing,
-        Number::Digits(k) => wind_of(iw, k),
-    }
-}
-
-// W, from iw and fff of a group 00fff.
-pub fn wind_fff(iw: u8, a: u8, b: u8, c: u8) -> Value
-    ensures { λ r. ⌜ meaning r ≡ elements.windFff iw a b c ⌝ }
-{
-    match three(a, b, c) {
+    let iw = characters_of(time).e;
+    let x = characters_of(wind);
+    match two(x.d, x.e) {
         Number::Slash => Value::Missing,
         Number::Digits(k) => wind_of(iw, k),
     }
 }
 
-// C, from N: eighths.
-pub fn cloud(n: u8) -> Value
-    ensures { λ r. ⌜ meaning r ≡ elements.cloud n ⌝ }
+// W, from iw and fff of 00fff.
+pub fn wind_fff(time: Group, gale: Group) -> Value
+    ensures { λ r. ⌜ meaning r ≡ group.windFff time gale ⌝ }
 {
-    match digit(n) {
+    let iw = characters_of(time).e;
+    let x = characters_of(gale);
+    match three(x.c, x.d, x.e) {
+        Number::Slash => Value::Missing,
+        Number::Digits(k) => wind_of(iw, k),
+    }
+}
+
+// C, from N of Nddff: eighths.
+pub fn cloud(wind: Group) -> Value
+    ensures { λ r. ⌜ meaning r ≡ group.cloud wind ⌝ }
+{
+    match digit(characters_of(wind).a) {
         Number::Slash => Value::Missing,
         Number::Digits(k) => cloud_of(k),
     }
 }
 
-// V, from VV: hundreds of metres.
-pub fn visibility(a: u8, b: u8) -> Value
-    ensures { λ r. ⌜ meaning r ≡ elements.visibility a b ⌝ }
+// V, from VV of iRixhVV: hundreds of metres.
+pub fn visibility(g: Group) -> Value
+    ensures { λ r. ⌜ meaning r ≡ group.visibility g ⌝ }
 {
-    match two(a, b) {
+    let x = characters_of(g);
+    match two(x.d, x.e) {
         Number::Slash => Value::Missing,
         Number::Digits(vv) => visibility_of(vv),
     }
 }
 
-// R, from RRR: tenths of mm.
-pub fn rain(a: u8, b: u8, c: u8) -> Value
-    ensures { λ r. ⌜ meaning r ≡ elements.rain a b c ⌝ }
+// R, from 6RRRtR: tenths of mm.
+pub fn rain(g: Group) -> Value
+    ensures { λ r. ⌜ meaning r ≡ group.rain g ⌝ }
 {
-    match three(a, b, c) {
+    let x = characters_of(g);
+    match three(x.b, x.c, x.d) {
         Number::Slash => Value::Missing,
         Number::Digits(rrr) => rain_of(rrr),
     }
@@ -151,31 +193,32 @@ fn duration_of(t: u8) -> u8
     }
 }
 
-// tR, from RRRtR: 0 where it is `/` or R is missing.
-pub fn rain_duration(a: u8, b: u8, c: u8, t: u8) -> u8
-    ensures { λ r. ⌜ r ≡ indicators.rainDuration a b c t ⌝ }
+// tR, from 6RRRtR: 0 where it is `/` or R is missing.
+pub fn rain_duration(g: Group) -> u8
+    ensures { λ r. ⌜ r ≡ group.rainDuration g ⌝ }
 {
-    match rain(a, b, c) {
+    match rain(g) {
         Value::Missing => 0,
-        Value::Read(_) => duration_of(t),
+        Value::Read(_) => duration_of(characters_of(g).e),
     }
 }
 
-// iR: 0 to 4, else 5.
-pub fn rain_indicator(c: u8) -> u8
-    ensures { λ r. ⌜ r ≡ indicators.rainIndicator c ⌝ }
+// iR, from iRixhVV: 0 to 4, else 5.
+pub fn rain_indicator(g: Group) -> u8
+    ensures { λ r. ⌜ r ≡ group.rainIndicator g ⌝ }
 {
-    match digit(c) {
+    match digit(characters_of(g).a) {
         Number::Slash => 5,
         Number::Digits(n) => indicator_of(n),
     }
 }
 
-// dd: 0 to 36 or 99, else 100.
-pub fn wind_direction(a: u8, b: u8) -> u8
-    ensures { λ r. ⌜ r ≡ indicators.windDirection a b ⌝ }
+// dd, from Nddff: 0 to 36 or 99, else 100.
+pub fn wind_direction(wind: Group) -> u8
+    ensures { λ r. ⌜ r ≡ group.windDirection wind ⌝ }
 {
-    match two(a, b) {
+    let x = characters_of(wind);
+    match two(x.b, x.c) {
         Number::Slash => 100,
         Number::Digits(n) => direction_of(n),
     }

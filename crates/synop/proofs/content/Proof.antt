@@ -11,4 +11,4 @@ content-spec =
     (tie.spec (λ c. search needs) (λ c. search needs) (λ c κs. search needs) (λ c κs. search needs)
     (λ c. as-nil (c .before .before .before .before .before .args .t2) (c .before .before .before .before .before .args .p) (c .before .before .identification-of .ensures) (c .before .is-nil .ensures) (c .if1 .taken))
     (λ c. search needs) (λ c. search needs) (λ c κs. search needs) (λ c. search needs) (λ c. search needs) (λ c κs. search needs) (λ c κs. search needs)
-    (λ c. as-whole (c .before .before .before .before .before .before .before .before .before .before .before .before .args .t2) (c .before .before .before .before .before .before .before .before .before .before .before .before .args .p) (c .before .before .before .before .before .before .before .before .before .identification-of .ensures) (c .before .before .before .before .before .before .before .before .is-nil .ensures) (c .before .before .before .before .before .before .before .if1 .left) (c .before .before .before .before .first-of .ensures) (c .before .indicators-of .ensures) (c .values-in .ensures)))
+    (λ c. as-whole (c .before .before .before .before .before .before .before .before .before .before .before .before .args .t2) (c .before .before .before .before .before .before .before .before .before .before .before .before .args .p) (c .before .before .before .before .before .before .before .before .before .identification-of .ensures) (c .before .before .before .before .before .before .before .before .is-nil .ensures) (c .before .before .before .before .before .before .before .if1 .left) (c .before .before .before .before .first-of .ensures) (c .before .indicators-of .ensures) (c .values-of .ensures)))

@@ -2,7 +2,7 @@
 -- Assumes nothing.
 use mathlib.Core.Path.{_≡_, _∙_, ap}
 use borrow.Author.Needs.{needs}
-use Rattle.synop_contents.specs.declared.Characters.{Characters}
+use Rattle.synop_figures.specs.declared.Characters.{Characters}
 use Rattle.synop_contents.specs.Contents.{identificationOf, stationOf, twoOf}
 use Rattle.synop_contents.proofs.identification_of.Statement.{statement}
 use Rattle.synop_contents.proofs.identification_of.Tie as tie

@@ -10,15 +10,15 @@ pub values-of-spec : {M : Type 1} → statement M
 unfolding valuesOf
 values-of-spec =
     tie.close
-    (tie.spec (λ c κs. search needs) (λ c κs. search needs) (λ c κs. search needs) (λ c κs. search needs) (λ c κs. search needs) (λ c κs. search needs) (λ c κs. search needs)
-    (λ c κs. search needs) (λ c κs. search needs)
-    (λ c. λ i. c .before .before .before .before .before .before .before .before .temperature-of .ensures i
-    ∷ c .before .before .before .before .before .before .before .temperature-of2 .ensures i
-    ∷ c .before .before .before .before .before .before .pressure-of .ensures i
-    ∷ c .before .before .before .before .before .wind-of .ensures i
-    ∷ c .before .before .before .before .cloud-of .ensures i
-    ∷ c .before .before .before .visibility-of .ensures i
-    ∷ c .before .before .rain-of .ensures i
-    ∷ c .before .temperature-of3 .ensures i
-    ∷ c .temperature-of4 .ensures i
+    (tie.spec (λ c. search needs) (λ c κs. search needs) (λ c. search needs) (λ c κs. search needs) (λ c. search needs) (λ c κs. search needs) (λ c. search needs) (λ c. search needs) (λ c. search needs) (λ c κs. search needs)
+    (λ c. search needs) (λ c κs. search needs) (λ c. search needs) (λ c κs. search needs) (λ c κs. search needs) (λ c. search needs) (λ c κs. search needs) (λ c. search needs) (λ c κs. search needs)
+    (λ c. λ i. c .before .before .before .before .before .before .before .before .before .before .before .before .before .before .before .before .before .temperature .ensures i
+    ∷ c .before .before .before .before .before .before .before .before .before .before .before .before .before .before .before .temperature2 .ensures i
+    ∷ c .before .before .before .before .before .before .before .before .before .before .before .before .before .pressure .ensures i
+    ∷ c .before .before .before .before .before .before .before .before .before .wind-of .ensures i
+    ∷ c .before .before .before .before .before .before .before .cloud .ensures i
+    ∷ c .before .before .before .before .before .visibility .ensures i
+    ∷ c .before .before .before .before .rain .ensures i
+    ∷ c .before .before .temperature3 .ensures i
+    ∷ c .temperature4 .ensures i
     ∷ []))

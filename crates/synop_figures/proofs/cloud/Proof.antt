@@ -2,14 +2,15 @@
 -- Assumes nothing.
 use mathlib.Core.Path.{sym, _∙_}
 use borrow.Author.Needs.{needs}
+use Rattle.synop_figures.specs.OneGroup as group
 use Rattle.synop_figures.specs.Elements.{cloud}
 use Rattle.synop_figures.proofs.cloud.Statement.{statement}
 use Rattle.synop_figures.proofs.cloud.Tie as tie
 
 pub cloud-spec : {M : Type 1} → statement M
-unfolding cloud
+unfolding group.cloud cloud
 cloud-spec =
     tie.close
-    (tie.spec (λ c κs. search needs) (λ c. search needs) (λ c. search needs) (λ c κs. search needs)
-    (λ c. rw (sym (c .before .before .digit .ensures) ∙ c .enum-told .given .1))
-    (λ c. rw (sym (c .before .before .before .before .digit .ensures) ∙ c .before .before .k .given .1) (c .cloud-of .ensures)))
+    (tie.spec (λ c κs. search needs) (λ c κs. search needs) (λ c. search needs) (λ c. search needs) (λ c κs. search needs)
+    (λ c. rw (← c .before .before .before .characters-of .ensures, sym (c .before .before .digit .ensures) ∙ c .enum-told .given .1))
+    (λ c. rw (← c .before .before .before .before .before .characters-of .ensures, sym (c .before .before .before .before .digit .ensures) ∙ c .before .before .k .given .1) (c .cloud-of .ensures)))

@@ -2,16 +2,17 @@
 -- Assumes nothing.
 use mathlib.Core.Path.{sym, _∙_}
 use borrow.Author.Needs.{needs}
+use Rattle.synop_figures.specs.OneGroup as group
 use Rattle.synop_figures.specs.Elements.{windFff}
 use Rattle.synop_figures.proofs.Numbers.{three-below, of-number}
 use Rattle.synop_figures.proofs.wind_fff.Statement.{statement}
 use Rattle.synop_figures.proofs.wind_fff.Tie as tie
 
 pub wind-fff-spec : {M : Type 1} → statement M
-unfolding windFff
+unfolding group.windFff windFff
 wind-fff-spec =
     tie.close
-    (tie.spec (λ c κs. search needs) (λ c. search needs) (λ c. search needs)
+    (tie.spec (λ c κs. search needs) (λ c κs. search needs) (λ c κs. search needs) (λ c. search needs) (λ c. search needs)
     (λ c κs. of-number 1000 (three-below _ _ _) (sym (c .before .before .before .three .ensures) ∙ c .before .k .given .1))
-    (λ c. rw (sym (c .before .before .three .ensures) ∙ c .enum-told .given .1))
-    (λ c. rw (sym (c .before .before .before .before .three .ensures) ∙ c .before .before .k .given .1) (c .wind-of .ensures)))
+    (λ c. rw (← c .before .before .before .characters-of2 .ensures, ← c .before .before .before .before .characters-of .ensures, sym (c .before .before .three .ensures) ∙ c .enum-told .given .1))
+    (λ c. rw (← c .before .before .before .before .before .characters-of2 .ensures, ← c .before .before .before .before .before .before .characters-of .ensures, sym (c .before .before .before .before .three .ensures) ∙ c .before .before .k .given .1) (c .wind-of .ensures)))

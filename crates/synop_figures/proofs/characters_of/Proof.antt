@@ -1,9 +1,9 @@
--- `synop_contents::characters_of` meets its contract, by the kind of the group.
+-- `synop_figures::characters_of` meets its contract, by the kind of the group.
 -- Assumes nothing.
 use borrow.Author.Needs.{needs}
-use Rattle.synop_contents.specs.Contents.{charactersOf}
-use Rattle.synop_contents.proofs.characters_of.Statement.{statement}
-use Rattle.synop_contents.proofs.characters_of.Tie as tie
+use Rattle.synop_figures.specs.OneGroup.{charactersOf}
+use Rattle.synop_figures.proofs.characters_of.Statement.{statement}
+use Rattle.synop_figures.proofs.characters_of.Tie as tie
 
 pub characters-of-spec : {M : Type 1} → statement M
 unfolding charactersOf
