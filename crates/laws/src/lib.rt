@@ -1,5 +1,5 @@
-// What several crates share: signed numbers and their size, and, in specs/ and proofs/, the definitions
-// and laws that their contracts and proofs cite.
+// What several crates share: signed numbers and their size, and, in specs/ and proofs/, the definitions and laws that their
+// contracts and proofs cite.
 ghost use mathlib.Core.Path.{_≡_};
 ghost use Prim.Native.Nat.{_<_};
 ghost use lib.IntN.{natAbs, subℕ};

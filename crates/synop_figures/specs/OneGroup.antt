@@ -8,7 +8,7 @@ use Rattle.synop_figures.specs.declared.Characters.{Characters}
 use Rattle.synop_figures.specs.Elements as elements
 use Rattle.synop_figures.specs.Indicators as indicators
 
--- zeros are no digits, and read as missing
+-- the five characters of a group; of any other, and where there is none, zeros, which are no digits and read as missing
 unfoldable pub charactersOf : Group → Characters
 charactersOf g =
     onFive (record { a = 0; b = 0; c = 0; d = 0; e = 0 }) (λ a b c d e. record { a = a; b = b; c = c; d = d; e = e }) g
