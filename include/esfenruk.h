@@ -1,5 +1,5 @@
 /* The calls on a store of one day, for C. Link libesfenruk.a (`rt staticlib esfenruk`).
-   Each call returns 0 or the refusal's number (1 to 12); a refusal changes no byte of the store and of the arrays. */
+   Each call on a store returns 0 or the refusal's number (1 to 12); a refusal changes no byte of the store and of the arrays. */
 #ifndef ESFENRUK_H
 #define ESFENRUK_H
 
@@ -39,6 +39,14 @@ uint32_t esfenruk_day(const uint8_t *store, size_t store_length, uint32_t statio
    reports without it, each ended by `=`, at most 16384 bytes. The store's soundness is tested once.
    counts: how many reports were accepted, and how many refused. */
 uint32_t esfenruk_bulletin(uint8_t *store, size_t store_length, const uint8_t *text, size_t text_length, uint32_t counts[2]);
+
+/* How many numbers the vapour table has. */
+#define ESFENRUK_VAPOUR_TABLE 1001
+
+/* Fills `entries` with the vapour table, computed by its recurrence: the vapour pressure in hundredths of hPa at each dew
+   point from -500 to 500 tenths of a degree. It needs no store. 0; where `entries_length` is not 1001, the length needed,
+   1001, and no number is changed. */
+uint32_t esfenruk_vapour_table(uint16_t *entries, size_t entries_length);
 
 #ifdef __cplusplus
 }

@@ -1,6 +1,6 @@
 #!/usr/bin/env python3
-"""Prints what the program vapour_table must write (crates/vapour_table/stdout): a line "t entry" for each dew point t from
--500 to 500 tenths, by document 01's recurrence in exact whole numbers, then the lookup's answers outside the table."""
+"""Prints what the program vapour_table must write (crates/vapour_table/stdout): the vapour table's entry for each dew point t
+from -500 to 500 tenths, one a line, by document 01's recurrence in exact whole numbers."""
 
 S = 10**8
 
@@ -15,7 +15,4 @@ def entry(t):
 
 
 for t in range(-500, 501):
-    print(t, entry(t))
-for t in (-32768, -501, 501, 32767):
-    print(t, "missing")
-print("differences 0")
+    print(entry(t))

@@ -1,5 +1,6 @@
 // The calls for C and Rust: open, file, settle, cell, day and bulletin. Each returns 0 or the refusal's number, and writes what it answers into the
-// caller's arrays, which a refusal leaves as they are. No call has a `requires`: each answers on every buffer and argument.
+// caller's arrays, which a refusal leaves as they are. Beside them the generator of the vapour table, which needs no store. No call has a
+// `requires`: each answers on every buffer and argument.
 ghost use mathlib.Core.Path.{_≡_};
 ghost use mathlib.Core.List.{[], _∷_};
 ghost use lib.IntN.{pos};
@@ -9,6 +10,7 @@ ghost use Rattle.bulletin.specs.Bulletin.{result};
 ghost use Rattle.engine_answers.specs.Replies.{reply, openOutcome};
 ghost use Rattle.rules.specs.Calls as Calls;
 ghost use Rattle.rules.specs.Step.{step};
+ghost use Rattle.vapour.specs.Generator.{Fills};
 use bulletin::BulletinReply;
 use capi_arrays::line_floats;
 use capi_arrays::line_numbers;
@@ -17,6 +19,7 @@ use engine_answers::CellReply;
 use engine_answers::DayReply;
 use engine_answers::Reply;
 use laws::difference;
+use vapour::Filling;
 
 // The number of an answer without a value.
 fn number_of(r: Reply) -> u32
@@ -122,5 +125,16 @@ pub extern "C" fn esfenruk_bulletin(store: &mut [u8], text: &[u8], counts: &mut 
             *counts = [t.accepted, t.refused];
             0
         }
+    }
+}
+
+// Fills `entries` with the vapour table, if it has 1001 numbers: 0, or the length needed.
+#[no_mangle]
+pub extern "C" fn esfenruk_vapour_table(entries: &mut [u16]) -> u32
+    ensures { λ r. ⌜ Fills 0 (λ n. n) (now (entries .entry)) r (now (entries .exit)) ⌝ }
+{
+    match vapour::generator::fill(entries) {
+        Filling::Filled => 0,
+        Filling::LengthNeeded(n) => n,
     }
 }

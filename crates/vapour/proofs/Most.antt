@@ -11,7 +11,7 @@ use lib.IntN.{ℤ, pos, negsuc, subℕ}
 use Rattle.laws.specs.All.{all}
 use Rattle.laws.proofs.Bools.{and-left, cond-true, cond-false, Known, is-true, is-false, known}
 use Rattle.laws.proofs.Tables.{all-at}
-use Rattle.vapour.specs.Vapour.{entry, inTable, pressure}
+use Rattle.vapour.specs.Vapour.{places, entry, inTable, pressure}
 use Rattle.laws.proofs.Differences.{from-zero, below-zero}
 use Rattle.vapour.proofs.Pass.{quick, quick-is}
 
@@ -19,14 +19,14 @@ small : ℕ → Bool
 small i = leb (quick (subℕ i 500)) 12419
 
 -- the test, computed at every index
-all-small : all small 1001 ≡ true
+all-small : all small places ≡ true
 unfolding small
 all-small = refl
 
 -- the entry at an index
-pub index-most : (i : ℕ) → i < 1001 → entry (subℕ i 500) ≤ 12419
+pub index-most : (i : ℕ) → i < places → entry (subℕ i 500) ≤ 12419
 unfolding small
-index-most i h = rw quick-is at (leb-true (quick (subℕ i 500)) 12419 (all-at small 1001 all-small i h))
+index-most i h = rw quick-is at (leb-true (quick (subℕ i 500)) 12419 (all-at small places all-small i h))
 
 -- the entry at a dew point of the table
 pub entry-most : (t : ℤ) → inTable t ≡ true → entry t ≤ 12419

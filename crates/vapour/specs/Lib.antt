@@ -1,3 +1,4 @@
--- The vapour pressure at a dew point, and what the lookup's answer says of it.
+-- The vapour pressure at a dew point, what the lookup's answer says of it, and what the generator leaves.
 pub mod Vapour
 pub mod Answer
+pub mod Generator

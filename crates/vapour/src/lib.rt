@@ -1,11 +1,14 @@
-// The vapour pressure at a dew point, looked up in a table (`table`), and the recurrence that the table's numbers come
-// from (`recurrence`). A dew point is given in tenths of a degree, in offset binary (v + 32768). What the table looks like
-// is known here alone.
+// The vapour pressure at a dew point, looked up in a table (`table`), and a generator of the table's numbers (`generator`)
+// by the recurrence that they come from (`recurrence`). A dew point is given in tenths of a degree, in offset binary
+// (v + 32768). What the table looks like is known here alone.
 mod answer;
-pub mod recurrence;
+pub mod generator;
+mod recurrence;
 mod table;
 
+pub use answer::Filling;
 pub use answer::Pressure;
+pub use table::PLACES;
 ghost use mathlib.Core.Path.{_≡_};
 ghost use mathlib.Core.List.{map};
 ghost use Rattle.vapour.specs.Answer.{told, pressureAt};
@@ -28,14 +31,6 @@ fn pressure_in(table: &[u16], dew_point: u16) -> Pressure
         return Pressure::Missing;
     }
     Pressure::Hundredths(table::at(table, (dew_point - LOWEST) as usize))
-}
-
-// The vapour pressure at one dew point.
-pub fn pressure(dew_point: u16) -> Pressure
-    ensures { λ r. ⌜ told r ≡ pressureAt «dew_point» ⌝ }
-{
-    let entries = table::entries();
-    pressure_in(&entries, dew_point)
 }
 
 // The vapour pressures at nine dew points. The table is copied once for all of them.

@@ -2,14 +2,14 @@
 ghost use mathlib.Core.Path.{_≡_};
 ghost use Prim.Native.Nat.{_*_, _<_, _≤_};
 ghost use lib.IntN.{natAbs, subℕ};
-ghost use Rattle.vapour.specs.Vapour.{S, q, term, sumTo, entry};
+ghost use Rattle.vapour.specs.Vapour.{S, places, q, term, sumTo, entry};
 
 // The unit in which the terms are counted: a term S stands for 1.
 const S: u64 = 100000000;
 
 // |t| of the dew point t = index − 500.
 fn size(index: u64) -> u64
-    requires { ⌜ index < 1001 ⌝ }
+    requires { ⌜ index < places ⌝ }
     ensures { λ r. ⌜ (r ≡ natAbs (subℕ index 500)) × (r ≤ 500) ⌝ }
 {
     if index < 500 {
@@ -21,7 +21,7 @@ fn size(index: u64) -> u64
 
 // q of the dew point t = index − 500, where t + 2435 = index + 1935.
 fn quotient(index: u64) -> u64
-    requires { ⌜ index < 1001 ⌝ }
+    requires { ⌜ index < places ⌝ }
     ensures { λ r. ⌜ (r ≡ q (subℕ index 500)) × (r ≤ 5 * S) ⌝ }
 {
     1767 * size(index) * S / (100 * (index + 1935))
@@ -43,7 +43,7 @@ fn sum(q: u64) -> u64
 
 // The entry at an index, that of the dew point index − 500.
 pub fn entry_at(index: u64) -> u16
-    requires { ⌜ index < 1001 ⌝ }
+    requires { ⌜ index < places ⌝ }
     ensures { λ r. ⌜ r ≡ entry (subℕ index 500) ⌝ }
 {
     let z = sum(quotient(index));

@@ -2,12 +2,15 @@
 ghost use mathlib.Core.Path.{_≡_};
 ghost use Prim.Native.Nat.{_<_};
 ghost use lib.IntN.{subℕ};
-ghost use Rattle.vapour.specs.Vapour.{entry, Entries};
+ghost use Rattle.vapour.specs.Vapour.{places, entry, Entries};
+ghost use Rattle.vapour.specs.Generator.{AsFilled};
 
-// Hundredths of hPa. The numbers are what `recurrence::entry_at` computes at the indices 0 to 1000, and the program
-// `vapour_table` prints them; tools/vapour_table.py prints the same by itself. A comment gives the dew point of each
-// hundredth entry.
-const TABLE: [u16; 1001] = [
+// How many entries there are.
+pub const PLACES: usize = 1001;
+
+// Hundredths of hPa. The numbers are those that the generator fills a slice with, and the program `vapour_table` prints
+// them; tools/vapour_table.py prints the same by itself. A comment gives the dew point of each hundredth entry.
+const TABLE: [u16; PLACES] = [
     6, // -500
     6,
     7,
@@ -1012,7 +1015,7 @@ const TABLE: [u16; 1001] = [
 ];
 
 // The whole table, for whoever looks up more than one: naming the constant copies it, so no other function does.
-pub fn entries() -> [u16; 1001]
+pub fn entries() -> [u16; PLACES]
     ensures { λ r. ⌜ Entries r ⌝ }
 {
     TABLE
@@ -1020,8 +1023,17 @@ pub fn entries() -> [u16; 1001]
 
 // The entry at an index, that of the dew point index − 500.
 pub fn at(table: &[u16], index: usize) -> u16
-    requires { ⌜ (Entries (now table)) × (index < 1001) ⌝ }
+    requires { ⌜ (Entries (now table)) × (index < places) ⌝ }
     ensures { λ r. ⌜ r ≡ entry (subℕ index 500) ⌝ }
 {
     table[index]
+}
+
+// Document 02, S-1: the filled slice equals the constant table, entry by entry. The contract is the theorem.
+pub fn entry_as_filled(index: usize) -> u16
+    requires { ⌜ index < places ⌝ }
+    ensures { λ r. ⌜ AsFilled index r ⌝ }
+{
+    let entries = entries();
+    at(&entries, index)
 }

@@ -1,74 +1,40 @@
-// Prints the vapour table: a line "t entry" for each dew point t from −500 to 500 tenths of a degree, computed by the
-// recurrence. Then what the lookup answers at the dew points next to the table and at the outermost ones, and at how many
-// dew points of the table it answers something else than the recurrence.
-ghost use Prim.Native.Nat.{_<_, _≤_};
+// Prints the vapour table as the generator fills it: 1001 numbers, hundredths of hPa, one a line, that of the dew point −500
+// tenths of a degree first. A write that fails ends it, and is told on standard error.
+use libc::STDERR_FILENO;
 use libc::STDOUT_FILENO;
-use vapour::Pressure;
+use vapour::Filling;
+use vapour::PLACES;
+use vapour::generator::fill;
 
-// A dew point, given in offset binary, in decimal.
-fn print_dew_point(dew_point: u16) {
-    if dew_point < 32768 {
-        io::write_all(STDOUT_FILENO, b"-");
-        io::print_decimal(STDOUT_FILENO, (32768 - dew_point) as u64);
-    } else {
-        io::print_decimal(STDOUT_FILENO, (dew_point - 32768) as u64);
+// A number in decimal, on a line of its own: whether it was written.
+fn print_line(n: u16) -> bool {
+    if !io::print_decimal(STDOUT_FILENO, n as u64) {
+        return false;
     }
-    io::write_all(STDOUT_FILENO, b" ");
+    io::write_all(STDOUT_FILENO, b"\n")
 }
 
-// What the lookup answers at a dew point, on a line of its own.
-fn print_lookup(dew_point: u16) {
-    print_dew_point(dew_point);
-    match vapour::pressure(dew_point) {
-        Pressure::Hundredths(n) => {
-            io::print_decimal(STDOUT_FILENO, n as u64);
-        }
-        Pressure::Missing => {
-            io::write_all(STDOUT_FILENO, b"missing");
+// The lines of the numbers: whether all were written.
+fn print_lines(numbers: &[u16]) -> bool {
+    for k in 0..numbers.len() {
+        if !print_line(numbers[k]) {
+            return false;
         }
     }
-    io::write_all(STDOUT_FILENO, b"\n");
+    true
 }
 
-// 1 where the lookup answers something else than the entry, else 0.
-fn differs(dew_point: u16, entry: u16) -> u64
-    ensures { λ r. ⌜ r ≤ 1 ⌝ }
-{
-    match vapour::pressure(dew_point) {
-        Pressure::Hundredths(n) => { if n == entry { 0 } else { 1 } }
-        Pressure::Missing => 1,
+// The table: whether all of it was printed.
+fn print_table() -> bool {
+    let mut entries = [0u16; PLACES];
+    match fill(&mut entries) {
+        Filling::Filled => print_lines(&entries),
+        Filling::LengthNeeded(n) => false,
     }
-}
-
-// Prints the line of an index of the table, and answers whether the lookup differs there.
-fn print_entry(index: u64) -> u64
-    requires { ⌜ index < 1001 ⌝ }
-    ensures { λ r. ⌜ r ≤ 1 ⌝ }
-{
-    let dew_point = (32268 + index) as u16;
-    let entry = vapour::recurrence::entry_at(index);
-    print_dew_point(dew_point);
-    io::print_decimal(STDOUT_FILENO, entry as u64);
-    io::write_all(STDOUT_FILENO, b"\n");
-    differs(dew_point, entry)
-}
-
-// Prints the table, and answers at how many dew points the lookup differs.
-fn print_table() -> u64 {
-    let mut differences: u64 = 0;
-    for index in 0..1001 {
-        differences += print_entry(index);
-    }
-    differences
 }
 
 fn main() {
-    let differences = print_table();
-    print_lookup(0);
-    print_lookup(32267);
-    print_lookup(33269);
-    print_lookup(65535);
-    io::write_all(STDOUT_FILENO, b"differences ");
-    io::print_decimal(STDOUT_FILENO, differences);
-    io::write_all(STDOUT_FILENO, b"\n");
+    if !print_table() {
+        io::write_all(STDERR_FILENO, b"vapour_table: a write failed\n");
+    }
 }

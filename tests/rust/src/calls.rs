@@ -1,9 +1,9 @@
-//! The six calls as the C interface has them, for the reference and for the engine: 0 or the refusal's
-//! number, and arrays that a refusal leaves as they were.
+//! The calls as the C interface has them, for the reference and for the engine: 0 or the refusal's number (of
+//! the vapour table: the length needed), and arrays that only an answer of 0 writes to.
 
 #[cfg(feature = "engine")]
 use crate::engine::arrays;
-use crate::reference::{self, Cell, DayLine, Mean, Refusal};
+use crate::reference::{self, vapour, Cell, DayLine, Mean, Refusal};
 
 pub trait Calls {
     fn open(&self, store: &mut [u8], year: u32, month: u32, day: u32, stations: &[u32], rows: &[u16]) -> u32;
@@ -15,6 +15,7 @@ pub trait Calls {
     fn day(&self, store: &[u8], station: u32, means: &mut [f64; 6], numbers: &mut [i32; 14]) -> u32;
     /// `counts`: accepted, refused.
     fn bulletin(&self, store: &mut [u8], text: &[u8], counts: &mut [u32; 2]) -> u32;
+    fn vapour_table(&self, entries: &mut [u16]) -> u32;
 }
 
 /// The reading of the paper in this crate.
@@ -43,6 +44,10 @@ impl Calls for Reference {
 
     fn bulletin(&self, store: &mut [u8], text: &[u8], counts: &mut [u32; 2]) -> u32 {
         number(reference::bulletin(store, text), |tally| *counts = [tally.accepted, tally.refused])
+    }
+
+    fn vapour_table(&self, entries: &mut [u16]) -> u32 {
+        vapour::fill(entries).map_or_else(|needed| needed as u32, |()| 0)
     }
 }
 
@@ -114,5 +119,9 @@ impl Calls for Engine {
 
     fn bulletin(&self, store: &mut [u8], text: &[u8], counts: &mut [u32; 2]) -> u32 {
         arrays::bulletin(store, text, counts)
+    }
+
+    fn vapour_table(&self, entries: &mut [u16]) -> u32 {
+        arrays::vapour_table(entries)
     }
 }

@@ -122,6 +122,10 @@ impl<'a> Pair<'a> {
     fn difference(&self, call: &Call, damage: &[(usize, u8)], ours: &Answer, theirs: &Answer) -> String {
         let mut text = format!("  call: {call}\n  store: {} bytes, set first: {damage:?}\n", self.ours.len());
         text += &format!("  reference: {}\n  engine:    {}\n", ours.shown(call), theirs.shown(call));
+        let pairs = ours.entries.iter().zip(&theirs.entries).enumerate();
+        for (at, (our, their)) in pairs.filter(|(_, (our, their))| our != their).take(8) {
+            text += &format!("  entry {at}: reference {our}, engine {their}\n");
+        }
         let places: Vec<usize> = (0..self.ours.len()).filter(|&i| self.ours[i] != self.theirs[i]).collect();
         for &at in places.iter().take(8) {
             let field = stations_for(self.ours.len()).and_then(|n| field_at(n, at));

@@ -39,6 +39,7 @@ mod c {
             text_len: usize,
             counts: *mut [u32; 2],
         ) -> u32;
+        pub fn esfenruk_vapour_table(entries: *mut u16, entries_len: usize) -> u32;
     }
 }
 
@@ -117,6 +118,12 @@ pub fn bulletin(store: &mut [u8], text: &[u8]) -> Result<Tally, Number> {
     answer(number, Tally { accepted: counts[0], refused: counts[1] })
 }
 
+/// Fills a slice of 1001 numbers with the vapour pressure, hundredths of hPa, at the dew points -500 to 500 tenths of
+/// a degree. A slice of another length is left as it was, and the error is the length needed.
+pub fn vapour_table(entries: &mut [u16]) -> Result<(), usize> {
+    answer(arrays::vapour_table(entries), ()).map_err(|needed| needed as usize)
+}
+
 fn answer<A>(number: u32, accepted: A) -> Result<A, Number> {
     if number == 0 {
         Ok(accepted)
@@ -140,8 +147,8 @@ fn day_line(means: &[f64; 6], numbers: &[i32; 14]) -> DayLine {
     }
 }
 
-/// The calls as the C interface has them: 0 or the refusal's number, and arrays that a refusal
-/// leaves as they were.
+/// The calls as the C interface has them: 0 or the refusal's number (of the vapour table: the length
+/// needed), and arrays that only an answer of 0 writes to.
 pub mod arrays {
     use super::c;
 
@@ -187,5 +194,9 @@ pub mod arrays {
     /// `counts`: accepted, refused.
     pub fn bulletin(store: &mut [u8], text: &[u8], counts: &mut [u32; 2]) -> u32 {
         unsafe { c::esfenruk_bulletin(store.as_mut_ptr(), store.len(), text.as_ptr(), text.len(), counts) }
+    }
+
+    pub fn vapour_table(entries: &mut [u16]) -> u32 {
+        unsafe { c::esfenruk_vapour_table(entries.as_mut_ptr(), entries.len()) }
     }
 }

@@ -10,7 +10,7 @@ extern "C" {
 }
 
 const PAGE: usize = 4096;
-/// Room for the longest store and the longest text of a comparison.
+/// Room for the longest store, the longest text and the longest slice of a comparison.
 const ROOM: usize = 8 * PAGE;
 
 /// Pages that may be used, before one that may not; they are kept to the end of the program.
@@ -27,18 +27,21 @@ impl Field {
         }
     }
 
-    /// The bytes, copied to the end of the room.
-    fn hold(&mut self, bytes: &[u8]) -> &mut [u8] {
-        assert!(bytes.len() <= ROOM);
-        // The room is ours alone, and lent for as long as `self` is.
-        let room = unsafe { std::slice::from_raw_parts_mut(self.0, ROOM) };
-        let held = &mut room[ROOM - bytes.len()..];
-        held.copy_from_slice(bytes);
-        held
+    /// The bytes or numbers, copied to the end of the room.
+    fn hold<A: Copy>(&mut self, items: &[A]) -> &mut [A] {
+        let bytes = std::mem::size_of_val(items);
+        assert!(bytes <= ROOM);
+        // The room is ours alone, and lent for as long as `self` is. It ends where a page does, so that whole items
+        // up to its end are aligned.
+        unsafe {
+            let at = self.0.add(ROOM - bytes).cast::<A>();
+            at.copy_from_nonoverlapping(items.as_ptr(), items.len());
+            std::slice::from_raw_parts_mut(at, items.len())
+        }
     }
 }
 
-/// An engine whose stores and texts stand at a fence.
+/// An engine whose stores, texts and slices stand at a fence.
 pub struct Fenced<'a> {
     engine: &'a dyn Calls,
     fields: RefCell<[Field; 2]>,
@@ -92,5 +95,13 @@ impl Calls for Fenced<'_> {
 
     fn bulletin(&self, store: &mut [u8], text: &[u8], counts: &mut [u32; 2]) -> u32 {
         self.write(store, text, |store, text| self.engine.bulletin(store, text, counts))
+    }
+
+    fn vapour_table(&self, entries: &mut [u16]) -> u32 {
+        let [field, _] = &mut *self.fields.borrow_mut();
+        let held = field.hold(entries);
+        let number = self.engine.vapour_table(held);
+        entries.copy_from_slice(held);
+        number
     }
 }

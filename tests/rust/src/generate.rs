@@ -8,12 +8,13 @@ pub mod texts;
 
 use crate::calls::Calls;
 use crate::reference::layout::store_length;
+use crate::reference::vapour;
 use rng::Rng;
 use std::fmt;
 use stores::{Edits, Opening};
 use texts::Weather;
 
-/// One call with its arguments.
+/// One call with its arguments, a slice with the numbers that it holds when lent.
 #[derive(Clone, Debug)]
 pub enum Call {
     Open(Opening),
@@ -22,6 +23,7 @@ pub enum Call {
     Cell { station: u32, element: u32, slot: u32 },
     Day { station: u32 },
     Bulletin { text: Vec<u8> },
+    VapourTable { entries: Vec<u16> },
 }
 
 /// All that a call returns. The arrays start with values that no call gives, so that a refusal
@@ -33,6 +35,8 @@ pub struct Answer {
     pub means: [u64; 6],
     pub numbers: [i32; 14],
     pub counts: [u32; 2],
+    /// The slice after the call.
+    pub entries: Vec<u16>,
 }
 
 impl Call {
@@ -44,12 +48,14 @@ impl Call {
             Call::Cell { .. } => "cell",
             Call::Day { .. } => "day",
             Call::Bulletin { .. } => "bulletin",
+            Call::VapourTable { .. } => "vapour_table",
         }
     }
 
     pub fn make(&self, calls: &dyn Calls, store: &mut [u8]) -> Answer {
         let (mut cell, mut means, mut numbers, mut counts) =
             ([-99; 3], [-12345.5; 6], [-9999; 14], [99999; 2]);
+        let mut slice = Vec::new();
         let number = match self {
             Call::Open(o) => calls.open(store, o.year, o.month, o.day, &o.stations, &o.rows),
             Call::File { text } => calls.file(store, text),
@@ -57,15 +63,19 @@ impl Call {
             Call::Cell { station, element, slot } => calls.cell(store, *station, *element, *slot, &mut cell),
             Call::Day { station } => calls.day(store, *station, &mut means, &mut numbers),
             Call::Bulletin { text } => calls.bulletin(store, text, &mut counts),
+            Call::VapourTable { entries } => {
+                slice.clone_from(entries);
+                calls.vapour_table(&mut slice)
+            }
         };
-        Answer { number, cell, means: means.map(f64::to_bits), numbers, counts }
+        Answer { number, cell, means: means.map(f64::to_bits), numbers, counts, entries: slice }
     }
 }
 
 impl Answer {
-    /// What this call gives, in words.
+    /// What this call gives, in words, but for a slice.
     pub fn shown(&self, call: &Call) -> String {
-        let Answer { number, cell, means, numbers, counts } = self;
+        let Answer { number, cell, means, numbers, counts, .. } = self;
         match call {
             Call::Cell { .. } => format!("{number}, cell {cell:?}"),
             Call::Day { .. } => {
@@ -88,6 +98,7 @@ impl fmt::Display for Call {
             Call::Cell { station, element, slot } => write!(f, "cell {station} {element} {slot}"),
             Call::Day { station } => write!(f, "day {station}"),
             Call::Bulletin { text } => write!(f, "bulletin \"{}\"", text.escape_ascii()),
+            Call::VapourTable { entries } => write!(f, "vapour_table of {} numbers", entries.len()),
         }
     }
 }
@@ -109,14 +120,35 @@ pub enum Step {
 /// The steps of the episode of a seed.
 pub fn episode(seed: u64) -> Vec<Step> {
     let mut rng = Rng::new(seed);
-    match rng.below(100) {
+    let mut steps = match rng.below(100) {
         0..=29 => full_day(&mut rng),
         30..=59 => mixed(&mut rng),
         60..=79 => texts_only(&mut rng),
         80..=91 => hand_made(&mut rng),
         92..=95 => wrong_lengths(&mut rng),
         _ => openings(&mut rng),
+    };
+    // A call that has no store may stand anywhere.
+    if rng.chance(20) {
+        let at = rng.below(steps.len() + 1);
+        steps.insert(at, Step::Call(vapour_table(&mut rng)));
     }
+    steps
+}
+
+/// The vapour table to a slice of its length, of one beside it or of any other, which holds anything.
+fn vapour_table(rng: &mut Rng) -> Call {
+    let len = match rng.below(10) {
+        0..=3 => vapour::LENGTH,
+        4 => rng.below(2500),
+        _ => rng.pick(&[0, 1, vapour::LENGTH - 1, vapour::LENGTH + 1, 2 * vapour::LENGTH]),
+    };
+    Call::VapourTable { entries: (0..len).map(|_| rng.next_u64() as u16).collect() }
+}
+
+/// So many numbers, no two alike, of which the vapour table has none.
+pub fn no_entries(len: usize) -> Vec<u16> {
+    (0..len).map(|index| u16::MAX - index as u16).collect()
 }
 
 /// A store's day and stations, and the weather at each.

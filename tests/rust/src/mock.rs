@@ -8,7 +8,7 @@ use std::slice;
 use std::sync::atomic::{AtomicUsize, Ordering};
 
 /// What the mock can do wrong; the first is nothing.
-pub const FAULTS: [&str; 17] = [
+pub const FAULTS: [&str; 20] = [
     "no fault",
     "open leaves the last byte as it was",
     "a refused open writes a byte",
@@ -26,6 +26,9 @@ pub const FAULTS: [&str; 17] = [
     "bulletin counts a blank tail",
     "bulletin refuses 16384 bytes",
     "day does not test the last number of the header",
+    "the vapour table's last entry is the one before it",
+    "a slice of another length than the vapour table's is written to",
+    "the vapour table needs whatever length the slice has",
 ];
 
 static FAULT: AtomicUsize = AtomicUsize::new(0);
@@ -190,6 +193,22 @@ unsafe extern "C" fn esfenruk_bulletin(
     let number = Reference.bulletin(store, text, counts);
     if fault(14) && number == 0 && matches!(text.last(), Some(b' ' | b'\r' | b'\n')) {
         counts[1] += 1;
+    }
+    number
+}
+
+#[no_mangle]
+unsafe extern "C" fn esfenruk_vapour_table(entries: *mut u16, entries_len: usize) -> u32 {
+    let entries = slice::from_raw_parts_mut(entries, entries_len);
+    let number = Reference.vapour_table(entries);
+    if fault(17) && number == 0 {
+        entries[1000] = entries[999];
+    }
+    if let (true, Some(last)) = (fault(18) && number != 0, entries.last_mut()) {
+        *last = last.wrapping_add(1);
+    }
+    if fault(19) && number != 0 {
+        return entries_len as u32;
     }
     number
 }

@@ -9,7 +9,7 @@ use crate::reference::report::{self, groups, is_blank, Observation};
 use crate::reference::store;
 use std::collections::BTreeMap;
 
-/// The rows: the answers of the six calls, then the rest.
+/// The rows: the answers of each call, then the rest.
 pub const ROWS: &[(&str, &[u32])] = &[
     ("open", &[0, 10]),
     ("file", &[0, 1, 2, 3, 4, 5, 6, 7, 8, 9]),
@@ -17,6 +17,7 @@ pub const ROWS: &[(&str, &[u32])] = &[
     ("cell", &[0, 6, 9, 11, 12]),
     ("day", &[0, 6, 9, 11]),
     ("bulletin", &[0, 1, 3, 4, 9]),
+    ("vapour_table", &[0, 1001]),
     // What alone is wrong with a refused opening, as `opening_faults` has them.
     ("open: the one fault", &[0, 1, 2, 3, 4, 5, 6]),
     ("stations of a store", &[1, 2, 31, 32]),
@@ -83,6 +84,7 @@ pub const ROWS: &[(&str, &[u32])] = &[
     ("bulletin: bytes of a report rebuilt", &[11, 511, 512, 513]),
     // 0 none, 1 some, 2 all.
     ("bulletin: accepted", &[0, 1, 2]),
+    ("vapour_table: numbers lent", &[0, 1, 1000, 1001, 1002, 2002]),
 ];
 
 /// 0, 1, .. n - 1.
@@ -91,7 +93,7 @@ const fn first(n: usize) -> &'static [u32] {
     NUMBERS.split_at(n).0
 }
 
-const READ: usize = 24;
+const READ: usize = 25;
 const STATE: usize = READ + 9;
 const FLAG: usize = STATE + 9;
 const MEAN: usize = FLAG + 9;
@@ -126,6 +128,9 @@ impl Reached {
             (Call::Settle { station }, 0) => self.settle(*station, store),
             (Call::Day { .. }, 0) => self.day(answer),
             (Call::Bulletin { text }, number) => self.bulletin(text, number, answer.counts),
+            (Call::VapourTable { entries }, _) => {
+                self.add("vapour_table: numbers lent", entries.len() as u32)
+            }
             _ => {}
         }
     }

@@ -1,6 +1,7 @@
-//! Document 01 in plain Rust, section by section: the six calls on a lent buffer.
+//! The papers in plain Rust, section by section: document 01's calls on a lent buffer, and S-1 of document 02
+//! (`vapour::fill`), which has no buffer of that kind.
 //!
-//! Written from the paper alone. Every call but open tests the whole buffer first, and a refused
+//! Written from the papers alone. Every call on a buffer but open tests the whole of it first, and a refused
 //! call writes nothing.
 
 pub mod bulletin;

@@ -16,6 +16,7 @@
 //! settle S
 //! cell S ELEMENT SLOT
 //! day S
+//! table N                  the vapour table, to a slice of N numbers of which it has none
 //! ```
 //!
 //! In a text `~` stands for a line feed and `#` for eight groups. A record of a store of the last good opening, and
@@ -31,7 +32,7 @@
 
 use crate::generate::rng::Rng;
 use crate::generate::stores::{hand_made, Edits, Opening};
-use crate::generate::{Call, Step};
+use crate::generate::{no_entries, Call, Step};
 use crate::reference::layout::{store_length, Record};
 use crate::reference::store::ELEMENTS;
 
@@ -39,6 +40,8 @@ use crate::reference::store::ELEMENTS;
 const MOST_CALLS: usize = 100;
 const LONGEST_BUFFER: usize = store_length(34);
 const LONGEST_TEXT: usize = 17_000;
+const MOST_TABLES: usize = 8;
+const LONGEST_TABLE: usize = 3_000;
 
 /// The steps of a script.
 pub fn steps(script: &[u8]) -> Vec<Step> {
@@ -56,6 +59,8 @@ pub fn steps(script: &[u8]) -> Vec<Step> {
 struct Reader {
     steps: Vec<Step>,
     calls: usize,
+    /// How many of them are of the vapour table, the slowest one.
+    tables: usize,
     /// The length of the buffer in use.
     len: usize,
     edits: Edits,
@@ -99,6 +104,7 @@ impl Reader {
             Some(b's') => self.call(Call::Settle { station: next() }),
             Some(b'c') => self.call(Call::Cell { station: next(), element: next(), slot: next() }),
             Some(b'd') => self.call(Call::Day { station: next() }),
+            Some(b't') => self.table(next() as usize),
             _ => {}
         }
     }
@@ -131,6 +137,13 @@ impl Reader {
             self.opening = Some(opening.clone());
         }
         self.call(Call::Open(opening));
+    }
+
+    fn table(&mut self, len: usize) {
+        if self.tables < MOST_TABLES {
+            self.tables += 1;
+            self.call(Call::VapourTable { entries: no_entries(len.min(LONGEST_TABLE)) });
+        }
     }
 
     fn text(&mut self, written: &[u8]) -> Vec<u8> {

@@ -2,17 +2,18 @@
 //! store, every date, every short list of groups. The store is mostly that of 2024-04-11 and station 40001.
 
 use crate::generate::stores::{fresh, Edits, Opening};
-use crate::generate::{Call, Step};
+use crate::generate::{no_entries, Call, Step};
 use crate::reference;
 use crate::reference::layout::{self, store_length, Field, Record, DD, FILED, TR};
 use crate::reference::store::{self, Cell, Head, C, D, M, P, R, T, W, X};
+use crate::reference::vapour;
 
 /// Steps, one after the other.
 type Take<'a> = &'a mut dyn FnMut(Step);
 
 type Sweep = fn(Take);
 
-pub const SWEEPS: [(&str, Sweep); 21] = [
+pub const SWEEPS: [(&str, Sweep); 22] = [
     ("each byte of a store, each value", bytes_of_a_store),
     ("each field of a store, beside where soundness turns", fields_of_a_store),
     ("each cell's state, flag and value together", cells_of_a_store),
@@ -34,6 +35,7 @@ pub const SWEEPS: [(&str, Sweep); 21] = [
     ("stations by the numbers in other places", other_numbers),
     ("short lists of groups", short_lists),
     ("one edit of a text", edits_of_texts),
+    ("lengths of the vapour table", lengths_of_the_table),
 ];
 
 const STATION: u32 = 40001;
@@ -348,10 +350,10 @@ fn rain_totals(take: Take) {
     }
 }
 
-/// The same D in all slots, then one that differs.
+/// The same D in all slots, then one that differs: every dew point that a sound store can hold.
 fn dew_points(take: Take) {
     lend(take);
-    for value in (-600..=600).chain([-32767, 32767]) {
+    for value in -32767..=32767 {
         for other in [value, 0] {
             let mut edits = settled();
             edits.extend((0..9).flat_map(|slot| cell(checked(slot, D), Some(value))));
@@ -498,4 +500,14 @@ fn edits_of_texts(take: Take) {
         take(Step::Call(Call::File { text: text.clone() }));
         take(Step::Call(Call::Bulletin { text }));
     }
+}
+
+/// Numbers that the table does not have, then the table itself.
+fn lengths_of_the_table(take: Take) {
+    for len in 0..=2100 {
+        take(Step::Call(Call::VapourTable { entries: no_entries(len) }));
+    }
+    let mut entries = vec![0; vapour::LENGTH];
+    vapour::fill(&mut entries).expect("the table's length");
+    take(Step::Call(Call::VapourTable { entries }));
 }

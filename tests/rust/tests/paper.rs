@@ -1,8 +1,8 @@
-//! The reference on the values and examples that the paper prints.
+//! The reference on the values and examples that the papers print.
 
 use reading::calls::Reference;
 use reading::dayline::DayLines;
-use reading::generate::{episode, Step};
+use reading::generate::{episode, no_entries, Call, Step};
 use reading::reference::calendar::Date;
 use reading::reference::layout::{self, block_at, entry_at, store_length, Field, Record};
 use reading::reference::{self, report, settle, store, values, vapour, Cell, Mean, Tally};
@@ -51,6 +51,65 @@ fn proof_table() {
     let hot = settled(&["10480", "10481"]);
     assert_eq!(temperature(&hot, 0), Cell { state: 1, flag: 4, value: 480 });
     assert_eq!(temperature(&hot, 1), Cell { state: 0, flag: 1, value: 0 });
+}
+
+fn vapour_table() -> Vec<u16> {
+    let mut entries = no_entries(1001);
+    assert_eq!(vapour::fill(&mut entries), Ok(()));
+    entries
+}
+
+#[test]
+fn the_vapour_table() {
+    let entries = vapour_table();
+    assert_eq!((entries[500], entries[600]), (612, 1229));
+    assert_eq!((entries[0], entries[1000]), (6, 12419));
+    assert!(entries.is_sorted());
+    for (t, &entry) in (-500..).zip(&entries) {
+        assert_eq!(vapour::pressure(t), Some(entry.into()), "{t}");
+    }
+    for t in [-32767, -501, 501, 32767] {
+        assert_eq!(vapour::pressure(t), None, "{t}");
+    }
+}
+
+#[test]
+fn another_length_is_left_as_it_was() {
+    let entries = vapour_table();
+    for len in (0..=2100).filter(|&len| len != 1001) {
+        let lent = no_entries(len);
+        assert!(lent.iter().all(|number| !entries.contains(number)));
+        let mut slice = lent.clone();
+        assert_eq!(vapour::fill(&mut slice), Err(1001), "{len}");
+        assert_eq!(slice, lent, "{len}");
+    }
+}
+
+/// An entry of the vapour table in 63 bits, or nothing where a step on the way passes them.
+fn entry_in_63_bits(t: i64) -> Option<i64> {
+    let s = 100_000_000_i64;
+    let q = t.abs().checked_mul(1767)?.checked_mul(s)? / (100 * (t + 2435));
+    let (mut term, mut z) = (s, s);
+    for k in 1..=30 {
+        term = term.checked_mul(q)? / s.checked_mul(k)?;
+        z = z.checked_add(term)?;
+    }
+    let (over, under) = if t >= 0 { (z, s) } else { (s, z) };
+    Some(over.checked_mul(1224)?.checked_add(under)? / under.checked_mul(2)?)
+}
+
+#[test]
+fn the_recurrence_stays_within_63_bits() {
+    for (t, entry) in (-500..).zip(vapour_table()) {
+        assert_eq!(entry_in_63_bits(t), Some(entry.into()), "{t}");
+    }
+}
+
+/// What the program `vapour_table` is held to: the entries, one a line, and nothing else.
+#[test]
+fn the_printed_table() {
+    let lines: String = vapour_table().iter().map(|entry| format!("{entry}\n")).collect();
+    assert!(lines == include_str!("../../../crates/vapour_table/stdout"));
 }
 
 #[test]
@@ -212,6 +271,11 @@ fn a_refusal_changes_no_byte() {
             };
             let before = store.clone();
             let answer = call.make(&Reference, &mut store);
+            if let Call::VapourTable { entries } = &call {
+                assert_eq!((answer.number == 0, &store), (entries.len() == 1001, &before), "{call}");
+                assert!(answer.number == 0 || answer.entries == *entries, "{call}");
+                continue;
+            }
             let sound = store::sound(&store);
             if answer.number != 0 {
                 assert_eq!(store, before, "{call}");

@@ -4,6 +4,7 @@
 
 use reading::calls::{Calls, Engine, Reference};
 use reading::reference::layout::store_length;
+use reading::reference::vapour;
 use std::hint::black_box;
 use std::time::Instant;
 
@@ -201,6 +202,17 @@ fn works() -> Vec<Work> {
             // The cell of an absent station: a sound store is refused 6.
             run: Box::new(|calls, store| {
                 (0..100).map(|_| u64::from(calls.cell(black_box(store), 99999, 0, 0, &mut [0; 3]))).sum()
+            }),
+        },
+        Work {
+            name: "the vapour table",
+            unit: "table",
+            units: 1,
+            store: Vec::new(),
+            run: Box::new(|calls, _| {
+                let mut entries = [0; vapour::LENGTH];
+                let number = calls.vapour_table(&mut entries);
+                u64::from(number) + entries.iter().map(|&entry| u64::from(entry)).sum::<u64>()
             }),
         },
     ]

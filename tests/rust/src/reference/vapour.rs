@@ -1,9 +1,12 @@
-//! Vapour pressure over the dew point, hundredths of hPa: the table of 1001 entries, by its recurrence.
+//! Vapour pressure over the dew point, hundredths of hPa: the table of 1001 entries, by its recurrence, looked up
+//! (document 01) and written to a lent slice (document 02, S-1).
 
 const SCALE: u64 = 100_000_000;
 
-/// Entries for dew points −500 to 500 tenths of °C.
-static TABLE: [u16; 1001] = table();
+/// One entry for each dew point from −500 to 500 tenths of °C.
+pub const LENGTH: usize = 1001;
+
+static TABLE: [u16; LENGTH] = table();
 
 /// Missing outside the table.
 pub fn pressure(dew_point: i32) -> Option<i32> {
@@ -11,16 +14,29 @@ pub fn pressure(dew_point: i32) -> Option<i32> {
     TABLE.get(index).map(|&entry| entry.into())
 }
 
-const fn table() -> [u16; 1001] {
-    let mut table = [0; 1001];
+/// Fills a slice as long as the table with its entries. One of another length stays as it was, and the length needed
+/// is given.
+pub fn fill(entries: &mut [u16]) -> Result<(), usize> {
+    if entries.len() != LENGTH {
+        return Err(LENGTH);
+    }
+    for (index, number) in entries.iter_mut().enumerate() {
+        *number = entry(index as i64 - 500);
+    }
+    Ok(())
+}
+
+const fn table() -> [u16; LENGTH] {
+    let mut table = [0; LENGTH];
     let mut index = 0;
-    while index < 1001 {
+    while index < LENGTH {
         table[index] = entry(index as i64 - 500);
         index += 1;
     }
     table
 }
 
+/// The entry at dew point t.
 const fn entry(t: i64) -> u16 {
     let q = 1767 * t.unsigned_abs() * SCALE / (100 * (t + 2435) as u64);
     let mut term = SCALE;
