@@ -44,8 +44,8 @@ uint32_t esfenruk_bulletin(uint8_t *store, size_t store_length, const uint8_t *t
 #define ESFENRUK_VAPOUR_TABLE 1001
 
 /* Fills `entries` with the vapour table, computed by its recurrence: the vapour pressure in hundredths of hPa at each dew
-   point from -500 to 500 tenths of a degree. It needs no store. 0; where `entries_length` is not 1001, the length needed,
-   1001, and no number is changed. */
+   point from -500 to 500 tenths of a degree. Returns 0; or, where `entries_length` is not 1001, the length needed, 1001, and
+   changes no number. It has no store. */
 uint32_t esfenruk_vapour_table(uint16_t *entries, size_t entries_length);
 
 #ifdef __cplusplus

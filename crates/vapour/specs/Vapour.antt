@@ -37,10 +37,11 @@ unfoldable pub entry : ℤ → ℕ
 entry (pos n) = (1224 * Z (pos n) + S) / (2 * S)
 entry (negsuc n) = (1224 * S + Z (negsuc n)) / (2 * Z (negsuc n))
 
--- "a table of 1001 entries, dew point t = −500 to 500 tenths": the entry at t = index − 500
+-- "a table of 1001 entries"
 abbrev pub places : ℕ
 places = 1001
 
+-- "dew point t = −500 to 500 tenths": the list is that table, the entry at t = index − 500
 pub record Entries (xs : List ℕ) : Type 0 where
   pub long : length xs ≡ places
   pub each : (i : ℕ) → i < places → getD xs i 0 ≡ entry (subℕ i 500)
