@@ -24,15 +24,17 @@ uint32_t esfenruk_file(uint8_t *store, size_t store_length, const uint8_t *text,
 uint32_t esfenruk_settle(uint8_t *store, size_t store_length, uint32_t station);
 
 /* One checked cell, by element (0 to 8: T, D, P, W, C, V, R, X, M) and slot (0 to 8): 0, or 9, 6, 12, 11.
-   out: state, flag, value. */
+   out: state (0 missing, 1 read, 2 corrected, 3 filled, 4 a relative humidity in percent, in D's cells alone), flag (0 none,
+   1 range, 2 internal, 3 time, 4 suspect), value. */
 uint32_t esfenruk_cell(const uint8_t *store, size_t store_length, uint32_t station, uint32_t element, uint32_t slot,
                        int32_t out[3]);
 
 /* The day line of a station: 0, or 9, 6, 11.
-   means: T, D, P, W, C, vapour pressure; 0.0 where absent.
+   means: T, D, P, W, C, vapour pressure; 0.0 where absent. With a humidity in one of slots 0 to 7 D's mean is absent; the
+   vapour pressure of that slot is the humidity's share of the table's entry at its temperature.
    numbers: 0 to 5 the kind of each mean (0 absent, 1 read, 2 mended); 6 whether there is rain (0, 1); 7 the rain in tenths
    of mm (0 where absent); 8, 9 the warmest and the coldest slot (-1 where absent); 10 to 13 how many of the 81 cells are
-   read, corrected, filled, missing. */
+   read (humidities too), corrected, filled, missing. */
 uint32_t esfenruk_day(const uint8_t *store, size_t store_length, uint32_t station, double means[6], int32_t numbers[14]);
 
 /* Files the reports of a bulletin in order: 0, or 9, 1, 3, 4 for the whole. `text` is the heading `AAXX YYGGiw` and then

@@ -4,36 +4,22 @@ use mathlib.Core.Path.{_≡_, refl}
 use mathlib.Core.Bool.{Bool, true, false, cond}
 use mathlib.Core.List.{List}
 use mathlib.Core.Option.{Option, none, some}
-use Prim.Native.Nat.{ℕ, zero, suc, _≤_, _<_, _*_}
+use Prim.Native.Nat.{ℕ, zero, suc, _<_}
 use native.Mathlib.Omega.{arith}
-use lib.Dec.{eqb}
 use lib.Signed.{ltZ}
 use Rattle.quality.specs.declared.head.SlotHead.{SlotHead}
-use Rattle.quality.specs.Cell.{Cell, slot}
+use Rattle.quality.specs.Cell.{Cell}
 use Rattle.quality.specs.Elements.{column, temperature}
-use Rattle.daily.specs.Counts.{inColumn, inSheet}
+use Rattle.daily.specs.Counts.{count}
+use Rattle.daily.proofs.Counting.{count-most}
 use Rattle.daily.specs.Extremes.{earliest, utmost, warmest, coldest}
 use Rattle.daily.specs.Coded.{slotOf}
 use Rattle.daily.specs.Line.{dayLine}
 use Rattle.capi_arrays.specs.Arrays.{Near, Small, lineOf}
 
 -- ---- counts
-bit : (b : Bool) → cond b 1 0 ≤ 1
-bit true = omega arith
-bit false = omega arith
-
-column-most : (s : ℕ) (xs : List Cell) (n : ℕ) → inColumn s xs n ≤ n
-unfolding inColumn
-column-most s xs zero = omega arith
-column-most s xs (suc n) = omega (arith, column-most s xs n, bit (eqb (slot xs n .state) s))
-
-sheet-most : (s : ℕ) (sheet : List (List Cell)) (n : ℕ) → inSheet s sheet n ≤ 9 * n
-unfolding inSheet
-sheet-most s sheet zero = omega arith
-sheet-most s sheet (suc n) = omega (arith, sheet-most s sheet n, column-most s (column sheet n) 9)
-
-count-small : (s : ℕ) (sheet : List (List Cell)) → inSheet s sheet 9 < 82
-count-small s sheet = omega (arith, sheet-most s sheet 9)
+count-small : (s : ℕ) (sheet : List (List Cell)) → count s sheet < 82
+count-small s sheet = omega (arith, count-most s sheet)
 
 -- ---- slots
 abbrev Below : ℕ → Option ℕ → Type 0

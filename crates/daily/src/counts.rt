@@ -1,18 +1,18 @@
-// The cells of a sheet in one state.
+// The cells of a sheet by their state.
 ghost use mathlib.Core.Path.{_≡_};
 ghost use mathlib.Core.Bool.{cond};
 ghost use Prim.Native.Nat.{_≤_};
-ghost use lib.Dec.{eqb};
 ghost use Rattle.quality.specs.Coded.{cells, sheet};
-ghost use Rattle.daily.specs.Counts.{inColumn, count};
+ghost use Rattle.daily.specs.Counts.{countsUnder, inColumn, count};
 use quality::column::Column;
 use quality::column::at;
 
-// 1 where the two are the same, else 0.
-fn same(a: u8, b: u8) -> u32
-    ensures { λ r. ⌜ (r ≡ cond (eqb a b) 1 0) × (r ≤ 1) ⌝ }
+// 1 where a cell in state a counts under b, else 0: under its own state, and a humidity's under that of read cells.
+fn counted(a: u8, b: u8) -> u32
+    ensures { λ r. ⌜ (r ≡ cond (countsUnder b a) 1 0) × (r ≤ 1) ⌝ }
 {
-    if a == b {
+    let counts = (a == b) | ((a == 4) & (b == 1));
+    if counts {
         return 1;
     }
     0
@@ -24,7 +24,7 @@ fn in_column(c: Column, state: u8) -> u32
     let mut n: u32 = 0;
     for k in 0..9 {
         let d = at(c, k);
-        n += same(d.state, state);
+        n += counted(d.state, state);
     }
     n
 }

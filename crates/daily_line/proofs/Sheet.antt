@@ -1,6 +1,6 @@
 -- What the code shows of a column, said of the sheet's column of that element.
 -- Assumes nothing.
-use mathlib.Core.Path.{_≡_, sym, _∙_, ap, subst}
+use mathlib.Core.Path.{_≡_, sym, _∙_, ap₂, subst}
 use mathlib.Core.List.{List}
 use Prim.Native.Nat.{ℕ, _<_}
 use lib.ListN.{length, getD}
@@ -20,6 +20,6 @@ module _ (s : List Column) (long : length s ≡ 9) where
   pub says-column : {r : Mean} (e : ℕ) (z : Column) → e < 9 → SaysMean r (average (cells (getD s e z))) → SaysMean r (average (column (sheet s) e))
   says-column {r} e z h = subst (λ (xs : List Cell). SaysMean r (average xs)) (col e z h)
 
-  pub says-vapour : {r : Mean} (e : ℕ) (z v : Column) → e < 9 → cells v ≡ vapourColumn (cells (getD s e z))
-      → SaysMean r (average (cells v)) → SaysMean r (average (vapourColumn (column (sheet s) e)))
-  says-vapour {r} e z v h q m = subst (λ (xs : List Cell). SaysMean r (average xs)) (q ∙ ap vapourColumn (col e z h)) m
+  pub says-vapour : {r : Mean} (t d : ℕ) (y z v : Column) → t < 9 → d < 9 → cells v ≡ vapourColumn (cells (getD s t y)) (cells (getD s d z))
+      → SaysMean r (average (cells v)) → SaysMean r (average (vapourColumn (column (sheet s) t) (column (sheet s) d)))
+  says-vapour {r} t d y z v g h q m = subst (λ (xs : List Cell). SaysMean r (average xs)) (q ∙ ap₂ vapourColumn (col t y g) (col d z h)) m

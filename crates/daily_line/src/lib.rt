@@ -1,5 +1,6 @@
 // The day line of one station, from its nine checked columns and its slot heads: document 01, "The day line".
 ghost use Rattle.quality.specs.Coded.{sheet};
+ghost use Rattle.quality.specs.Valid.{ValidSheet};
 ghost use Rattle.daily.specs.Coded.{Says};
 ghost use Rattle.daily.specs.Line.{dayLine};
 use daily::DayLine;
@@ -13,6 +14,7 @@ use quality::head::SlotHead;
 
 // The day line from the checked columns, in the elements' order T, D, P, W, C, V, R, X, M, and the slot heads.
 pub fn day_line(checked: [Column; 9], heads: [SlotHead; 9]) -> DayLine
+    requires { ⌜ ValidSheet (sheet checked) ⌝ }
     ensures { λ r. ⌜ Says r (dayLine heads (sheet checked)) ⌝ }
 {
     let t = checked[0];
@@ -27,7 +29,7 @@ pub fn day_line(checked: [Column; 9], heads: [SlotHead; 9]) -> DayLine
         pressure: mean(p),
         wind: mean(w),
         cloud: mean(c),
-        vapour: mean(vapour_column(d)),
+        vapour: mean(vapour_column(t, d)),
         rain: rain_total(heads, r),
         warmest: extreme(t, true),
         coldest: extreme(t, false),

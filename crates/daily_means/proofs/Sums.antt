@@ -12,7 +12,8 @@ use Rattle.laws.specs.All.{all}
 use Rattle.laws.specs.Offset.{value}
 use Rattle.laws.proofs.Offset.{sub-add}
 use Rattle.laws.proofs.Tables.{all-more}
-use Rattle.quality.specs.Cell.{Cell, there, slot}
+use Rattle.quality.specs.Cell.{Cell, slot}
+use Rattle.quality.specs.Steps.{passedOver}
 use Rattle.daily.specs.declared.Mean.the-variants.{Absent, Read, Mended}
 use Rattle.daily.specs.Means.{sum, eightfold, repaired, average}
 use Rattle.daily.specs.Coded.{eighth, IsEighth, SaysMean}
@@ -35,7 +36,7 @@ pub record Running (xs : List Cell) (n : ℕ) (all-there all-plain : Bool) (k : 
   pub upto : k ≤ 8
   pub most : n ≤ 65535 * k
   pub sum : subℕ n (32768 * k) ≡ sum xs k
-  pub complete : all-there ≡ all (λ j. there (slot xs j)) k
+  pub complete : all-there ≡ all (λ j. not (passedOver (slot xs j))) k
   pub plain : all-plain ≡ all (λ j. not (repaired (slot xs j))) k
 
 -- all eight

@@ -6,13 +6,14 @@ use mathlib.Core.List.{List}
 use Prim.Native.Nat.{_≤_}
 use lib.IntN.{subℕ}
 use Rattle.laws.specs.All.{all}
-use Rattle.quality.specs.Cell.{Cell, there, slot}
+use Rattle.quality.specs.Cell.{Cell, slot}
+use Rattle.quality.specs.Steps.{passedOver}
 use Rattle.daily.specs.Means.{repaired, eightfold}
 use Rattle.daily_means.specs.declared.Tally.{Tally}
 
--- no slot of 0 to 7 is missing
+-- no slot of 0 to 7 is missing or has a humidity
 abbrev pub complete : List Cell → Bool
-complete xs = all (λ k. there (slot xs k)) 8
+complete xs = all (λ k. not (passedOver (slot xs k))) 8
 
 -- none is corrected or filled
 abbrev pub plain : List Cell → Bool

@@ -1,4 +1,4 @@
-// The means of the day line: of a column over slots 0 to 7, and of vapour pressure, whose column comes from that of dew points.
+// The means of the day line: of a column over slots 0 to 7, and of vapour pressure, whose column comes from those of temperatures and dew points.
 pub mod vapours;
 
 ghost use mathlib.Core.Path.{_≡_};
@@ -10,9 +10,9 @@ use daily::Mean;
 use laws::difference;
 use quality::column::Column;
 use quality::column::at;
-use quality::column::is_missing;
+use quality::column::passed_over;
 
-// The slots 0 to 7 of a column: their values added, in offset binary; that none is missing; that none is corrected or filled.
+// The slots 0 to 7 of a column: their values added, in offset binary; that none is missing or a humidity; that none is corrected or filled.
 struct Tally {
     sum: u32,
     complete: bool,
@@ -30,9 +30,10 @@ fn tally_of(c: Column) -> Tally
     let mut plain = true;
     for k in 0..8 {
         let d = at(c, k);
+        let state = d.state;
         sum += d.value as u32;
-        complete = complete & !is_missing(d);
-        plain = plain & !((d.state == 2) | (d.state == 3));
+        complete = complete & !passed_over(d);
+        plain = plain & !((state == 2) | (state == 3));
     }
     Tally {
         sum: sum,

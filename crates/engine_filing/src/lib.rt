@@ -23,6 +23,7 @@ use store_block::block::put_slot;
 use store_numbers::at::BLOCK_LENGTH;
 use store_soundness::find::Located;
 use synop::Report;
+use synop_codes::Moisture;
 use synop_codes::Value;
 use synop_contents::Identification;
 use synop_contents::Indicators;
@@ -46,6 +47,21 @@ fn raw_cell(v: Value) -> OffsetCell
     }
 }
 
+// What group 2 gave as D's raw cell: a humidity has state 4.
+fn raw_moisture(m: Moisture) -> OffsetCell
+    ensures { λ r. ⌜ cell r ≡ rawCell (codes.moisture m) ⌝ }
+{
+    match m {
+        Moisture::Nothing => raw_cell(Value::Missing),
+        Moisture::DewPoint(x) => raw_cell(Value::Read(x)),
+        Moisture::Humidity(u) => OffsetCell {
+            state: 4,
+            flag: 0,
+            value: 32768 + u as u16,
+        },
+    }
+}
+
 // What filing a report in slot k puts there: the slot's head.
 fn slot_head(k: usize, indicators: Indicators) -> SlotHead
     ensures { λ r. ⌜ r ≡ filedHead k indicators ⌝ }
@@ -63,7 +79,7 @@ fn raw_cells(k: usize, indicators: Indicators, v: Values) -> [OffsetCell; 9]
     ensures { λ r. ⌜ map cell r ≡ filedCells k indicators (listed v) ⌝ }
 {
     let temperature = v.temperature;
-    let dew_point = v.dew_point;
+    let moisture = v.moisture;
     let pressure = v.pressure;
     let wind = v.wind;
     let cloud = v.cloud;
@@ -73,7 +89,7 @@ fn raw_cells(k: usize, indicators: Indicators, v: Values) -> [OffsetCell; 9]
     let minimum = v.minimum;
     [
         raw_cell(temperature),
-        raw_cell(dew_point),
+        raw_moisture(moisture),
         raw_cell(pressure),
         raw_cell(wind),
         raw_cell(cloud),

@@ -68,6 +68,10 @@ pub or-true-right : (a b : Bool) → b ≡ true → (a || b) ≡ true
 or-true-right true b q = refl
 or-true-right false b q = q
 
+-- of two, the other
+pub or-second : {a b : Bool} → a ≡ false → (a || b) ≡ true → b ≡ true
+or-second f h = rw f at h
+
 pub or-false : (a b : Bool) → a ≡ false → b ≡ false → (a || b) ≡ false
 or-false a b p q = rw p q
 

@@ -20,11 +20,14 @@ pub slot-cells : (c : Column) (k : ℕ) → k < 9 → slot (cells c) k ≡ cellO
 unfolding cells
 slot-cells c k h = getD-table 9 _ k none h
 
--- a store at slot k of each of the three arrays is a store of the cell
-module _ (c : Column) (k s f v : ℕ) (vs : length (c .values) ≡ 9) (ss : length (c .states) ≡ 9) (fs : length (c .flags) ≡ 9) (h : k < 9) where
-  stored : Column
-  stored = record { values = set (c .values) k v; states = set (c .states) k s; flags = set (c .flags) k f }
+-- each of the three arrays has nine entries
+pub record Nine (c : Column) : Type 0 where
+  pub values : length (c .values) ≡ 9
+  pub states : length (c .states) ≡ 9
+  pub flags : length (c .flags) ≡ 9
 
+-- a store at slot k of each of the three arrays is a store of the cell
+module _ (c : Column) (k s f v : ℕ) (n : Nine c) (h : k < 9) where
   entry : ℕ → Cell
   entry j = cellOf (getD (set (c .states) k s) j 0) (getD (set (c .flags) k f) j 0) (getD (set (c .values) k v) j 0)
 
@@ -37,12 +40,16 @@ module _ (c : Column) (k s f v : ℕ) (vs : length (c .values) ≡ 9) (ss : leng
       rw e
       (getD-set-same (cells c) k (cellOf s f v) none (subst (λ (n : ℕ). k < n) (sym (length-cells c)) h)
       ∙ sym
-      (rw (getD-set-same (c .states) k s 0 (within (c .states) ss), getD-set-same (c .flags) k f 0 (within (c .flags) fs), getD-set-same (c .values) k v 0 (within (c .values) vs))))
-  at-slot j l (no n) =
-      getD-set-other (cells c) k j (cellOf s f v) none n ∙ slot-cells c j l
-      ∙ sym (rw (getD-set-other (c .states) k j s 0 n, getD-set-other (c .flags) k j f 0 n, getD-set-other (c .values) k j v 0 n))
+      (rw (getD-set-same (c .states) k s 0 (within (c .states) (n .states)), getD-set-same (c .flags) k f 0 (within (c .flags) (n .flags)), getD-set-same (c .values) k v 0 (within (c .values) (n .values)))))
+  at-slot j l (no q) =
+      getD-set-other (cells c) k j (cellOf s f v) none q ∙ slot-cells c j l
+      ∙ sym (rw (getD-set-other (c .states) k j s 0 q, getD-set-other (c .flags) k j f 0 q, getD-set-other (c .values) k j v 0 q))
 
   pub cells-put : cells (record { values = set (c .values) k v; states = set (c .states) k s; flags = set (c .flags) k f }) ≡ set (cells c) k (cellOf s f v)
   unfolding entry cells
   cells-put =
       sym (is-table 9 entry (set (cells c) k (cellOf s f v)) none (length-set (cells c) k (cellOf s f v) ∙ length-cells c) (λ j l. at-slot j l (ℕ-discrete j k)))
+
+  pub nine-put : Nine (record { values = set (c .values) k v; states = set (c .states) k s; flags = set (c .flags) k f })
+  nine-put =
+      record { values = length-set (c .values) k v ∙ n .values; states = length-set (c .states) k s ∙ n .states; flags = length-set (c .flags) k f ∙ n .flags }

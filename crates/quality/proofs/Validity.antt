@@ -1,5 +1,6 @@
--- Every step keeps valid cells valid: state 0 to 3, flag 0 to 4, value of −32767 to 32767, and 0 where missing.
+-- Every step keeps valid cells valid: state 0 to 3 or a humidity in D's, flag 0 to 4, value of −32767 to 32767, and 0 where missing.
 --     cell-parts, cell-whole        what the test of a cell asks
+--     state-most                    a valid cell's state is 4 at most
 --     none-valid, raw-valid         a missing cell without a flag; raw cells are valid ones
 --     column-valid, sheet-valid     columns and sheets from their cells
 --     column-sized                  what the time step asks of a column
@@ -11,26 +12,26 @@ use mathlib.Core.List.{List, []}
 use Prim.Native.Nat.{ℕ, _+_, _-_, _<_, _≤_}
 use native.Mathlib.Decide.{ℕ-discrete}
 use native.Mathlib.Omega.{arith}
-use borrow.Author.Tests.{leb-true, le-leb, ne-eqb}
+use borrow.Author.Tests.{leb-true, le-leb, eqb-true, ne-eqb}
 use lib.Dec.{eqb, leb, lit<, lit≤}
 use lib.IntN.{ℤ, pos, negℤ, natAbs, _+ℤ_}
 use lib.Signed.{ltZ, shrZ}
 use lib.ListN.{length, getD, set, length-set}
 use Rattle.laws.specs.Table.{table}
-use Rattle.laws.proofs.Bools.{both, or-true-left, cond-keeps}
+use Rattle.laws.proofs.Bools.{Known, is-true, is-false, known, both, and-left, and-right, or-true-left, or-true-right, or-second, cond-keeps}
 use Rattle.laws.proofs.Tables.{length-table, getD-table, set-each}
 use Rattle.laws.proofs.Offset.{size-negative, size-middle}
-use Rattle.quality.specs.Cell.{Cell, missing, discarded, flagged, slot, none}
+use Rattle.quality.specs.Cell.{Cell, missing, isPercent, isHumidity, discarded, flagged, slot, none}
 use Rattle.quality.specs.Elements.{column, temperature, dewPoint, pressure, wind, maximum, minimum}
 use Rattle.quality.specs.Limits.{Limits, limits}
-use Rattle.quality.specs.Steps.{rangeCell, dewCell, windCell, isZero, far, near, maximumBelowMinimum, spikeCell, timeCell, fillCell, between, rangeColumn, dewColumn, windColumn, suspectAt}
+use Rattle.quality.specs.Steps.{passedOver, noNeighbour, rangeCell, dewCell, windCell, isZero, far, near, maximumBelowMinimum, spikeCell, timeCell, fillCell, between, rangeColumn, dewColumn, windColumn, suspectAt}
 use Rattle.quality.specs.Settled.{range, internal, timeOf, time, fillOf, fill, settled}
-use Rattle.quality.specs.Valid.{isCell, CellWithin, ValidCell, ColumnWithin, ValidColumn, SheetWithin, ValidSheet, RawCell, RawSheet, Sized}
+use Rattle.quality.specs.Valid.{holdsHumidity, isCell, CellWithin, ValidCell, ColumnWithin, ValidColumn, SheetWithin, ValidSheet, RawCell, RawSheet, Sized}
 use Rattle.quality.proofs.Between.{ruled}
 
 -- ---- a cell's test, taken apart and put together
 pub record CellParts (states flags e : ℕ) (c : Cell) : Type 0 where
-  pub state : c .state ≤ states
+  pub state : (leb (c .state) states || holdsHumidity e c) ≡ true
   pub flag : c .flag ≤ flags
   pub size : natAbs (c .value) ≤ 32767
   pub empty : (not (missing c) || isZero (c .value)) ≡ true
@@ -42,49 +43,83 @@ module _ {states flags e : ℕ} {c : Cell} where
       let p = both (w .test) in
       let q = both (p .0) in
       let r = both (q .0) in
-      record { state = leb-true _ _ (r .0); flag = leb-true _ _ (r .1); size = leb-true _ _ (q .1); empty = p .1 }
+      record { state = r .0; flag = leb-true _ _ (r .1); size = leb-true _ _ (q .1); empty = p .1 }
 
   pub cell-whole : CellParts states flags e c → CellWithin states flags e c
   unfolding isCell
-  cell-whole p = record { test = rw (le-leb _ _ (p .state), le-leb _ _ (p .flag), le-leb _ _ (p .size)) (p .empty) }
+  cell-whole p = record { test = rw (p .state, le-leb _ _ (p .flag), le-leb _ _ (p .size)) (p .empty) }
+
+-- an ordinary state, none above the largest
+ordinary : (states e : ℕ) (c : Cell) → c .state ≤ states → (leb (c .state) states || holdsHumidity e c) ≡ true
+ordinary states e c l = or-true-left _ _ (le-leb _ _ l)
 
 pub none-valid : (states flags e : ℕ) → CellWithin states flags e none
-none-valid states flags e = cell-whole (record { state = omega arith; flag = omega arith; size = lit≤ tt; empty = refl })
+none-valid states flags e = cell-whole (record { state = ordinary states e none (omega arith); flag = omega arith; size = lit≤ tt; empty = refl })
+
+-- a humidity in D's cell
+pub humidity-valid : (states flags u : ℕ) → 1 ≤ u → u ≤ 100 → CellWithin states flags dewPoint (record { state = 4; flag = 0; value = pos u })
+humidity-valid states flags u l h =
+    cell-whole
+    (record {
+      state = or-true-right (leb 4 states) _ (rw (le-leb 1 u l, le-leb u 100 h));
+      flag = omega arith;
+      size = omega arith;
+      empty = refl;
+    })
+
+-- a valid cell's state is 4 at most
+pub state-most : (e : ℕ) (c : Cell) → ValidCell e c → c .state ≤ 4
+state-most e c v = go (known (leb (c .state) 3))
+  where
+    four : holdsHumidity e c ≡ true → c .state ≡ 4
+    four h = eqb-true (c .state) 4 (and-right (eqb e dewPoint) (isHumidity c) (and-left (eqb e dewPoint && isHumidity c) (isPercent (c .value)) h))
+
+    go : Known (leb (c .state) 3) → c .state ≤ 4
+    go (is-true t) = omega (arith, leb-true (c .state) 3 t)
+    go (is-false f) = omega (arith, four (or-second f (cell-parts v .state)))
+
+-- a state that may stand under one largest state may under a larger one
+wider : (few many e : ℕ) (c : Cell) → few ≤ many → (leb (c .state) few || holdsHumidity e c) ≡ true → (leb (c .state) many || holdsHumidity e c) ≡ true
+wider few many e c w h = go (known (leb (c .state) few))
+  where
+    go : Known (leb (c .state) few) → (leb (c .state) many || holdsHumidity e c) ≡ true
+    go (is-true t) = ordinary many e c (omega (arith, leb-true (c .state) few t))
+    go (is-false f) = or-true-right (leb (c .state) many) (holdsHumidity e c) (or-second f h)
 
 -- what may stand in a raw cell may stand in a checked one
 pub raw-valid : (e : ℕ) (c : Cell) → RawCell e c → ValidCell e c
 raw-valid e c r =
     let p = cell-parts r in
-    cell-whole (record { state = omega (arith, p .state); flag = omega (arith, p .flag); size = p .size; empty = p .empty })
+    cell-whole (record { state = wider 1 3 e c (lit≤ tt) (p .state); flag = omega (arith, p .flag); size = p .size; empty = p .empty })
 
 -- ---- cells
 module _ {e : ℕ} where
   pub discarded-valid : (f : ℕ) → f ≤ 4 → ValidCell e (discarded f)
-  discarded-valid f h = cell-whole (record { state = omega arith; flag = h; size = omega arith; empty = refl })
+  discarded-valid f h = cell-whole (record { state = ordinary 3 e (discarded f) (lit≤ tt); flag = h; size = omega arith; empty = refl })
 
   pub flagged-valid : (f : ℕ) (c : Cell) → f ≤ 4 → ValidCell e c → ValidCell e (flagged f c)
   flagged-valid f c h v = let p = cell-parts v in cell-whole (record { state = p .state; flag = h; size = p .size; empty = p .empty })
 
   -- a cell with a value
   valued : (s f : ℕ) (z : ℤ) → 1 ≤ s → s ≤ 3 → f ≤ 4 → natAbs z ≤ 32767 → ValidCell e (record { state = s; flag = f; value = z })
-  valued s f z l u h k = cell-whole (record { state = u; flag = h; size = k; empty = or-true-left _ _ (ap not (ne-eqb s 0 (λ q. omega arith))) })
+  valued s f z l u h k = cell-whole (record { state = ordinary 3 e (record { state = s; flag = f; value = z }) u; flag = h; size = k; empty = or-true-left _ _ (ap not (ne-eqb s 0 (λ q. omega arith))) })
 
   pub range-valid : (l : Limits) (c : Cell) → ValidCell e c → ValidCell e (rangeCell l c)
   unfolding rangeCell
   range-valid l c v =
-      cond-keeps (ValidCell e) (missing c) v
+      cond-keeps (ValidCell e) (passedOver c) v
       (cond-keeps (ValidCell e) (ltZ (c .value) (l .min2) || ltZ (l .max2) (c .value)) (discarded-valid 1 (lit≤ tt))
       (cond-keeps (ValidCell e) (ltZ (c .value) (l .min1) || ltZ (l .max1) (c .value)) (flagged-valid 4 c (lit≤ tt) v) v))
 
   pub dew-valid : (t d : Cell) → ValidCell e d → ValidCell e (dewCell t d)
   unfolding dewCell
   dew-valid t d v =
-      cond-keeps (ValidCell e) (missing t || missing d) v (cond-keeps (ValidCell e) (ltZ (t .value) (d .value)) (discarded-valid 2 (lit≤ tt)) v)
+      cond-keeps (ValidCell e) (passedOver t || passedOver d) v (cond-keeps (ValidCell e) (ltZ (t .value) (d .value)) (discarded-valid 2 (lit≤ tt)) v)
 
   pub wind-valid : (dd : ℕ) (w : Cell) → ValidCell e w → ValidCell e (windCell dd w)
   unfolding windCell
   wind-valid dd w v =
-      cond-keeps (ValidCell e) (missing w) v
+      cond-keeps (ValidCell e) (passedOver w) v
       (cond-keeps (ValidCell e) ((eqb dd 0 && ltZ (pos 0) (w .value)) || (leb 1 dd && leb dd 36 && isZero (w .value))) (flagged-valid 4 w (lit≤ tt) v) v)
 
   odd-valid : (m : Bool) (a x b : Cell) → ValidCell e x → ValidCell e (spikeCell m a x b)
@@ -97,13 +132,13 @@ module _ {e : ℕ} where
   pub time-valid : (m : Bool) (a x b : Cell) → ValidCell e a → ValidCell e x → ValidCell e b → ValidCell e (timeCell m a x b)
   unfolding timeCell
   time-valid m a x b va v vb =
-      cond-keeps (ValidCell e) (missing a || missing x || missing b) v
+      cond-keeps (ValidCell e) (noNeighbour a || passedOver x || noNeighbour b) v
       (cond-keeps (ValidCell e) (far (x .value) (a .value) && far (x .value) (b .value)) (odd-valid m a x b v) v)
 
   pub fill-valid : (a x b : Cell) → ValidCell e a → ValidCell e x → ValidCell e b → ValidCell e (fillCell a x b)
   unfolding fillCell
   fill-valid a x b va v vb =
-      cond-keeps (ValidCell e) (missing x && not (missing a) && not (missing b))
+      cond-keeps (ValidCell e) (missing x && not (noNeighbour a) && not (noNeighbour b))
       (valued 3 (x .flag) (shrZ (a .value +ℤ b .value +ℤ pos 1) 2) (lit≤ tt) (lit≤ tt) (cell-parts v .flag) (size-middle (a .value) (b .value) (cell-parts va .size) (cell-parts vb .size))) v
 
 -- ---- columns

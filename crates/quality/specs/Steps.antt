@@ -8,14 +8,15 @@ use lib.IntN.{ℤ, pos, negℤ, natAbs, _+ℤ_, _-ℤ_}
 use lib.ListN.{set}
 use lib.Signed.{ltZ, shrZ}
 use Rattle.laws.specs.Table.{table}
-use Rattle.quality.specs.Cell.{Cell, missing, discarded, flagged, slot}
+use Rattle.quality.specs.Cell.{Cell, missing, isHumidity, discarded, flagged, slot}
 use Rattle.quality.specs.Limits.{Limits}
 
--- "a test that meets a missing value does nothing": the cells that the steps pass over. Each rule begins with that test
+-- The cells that the steps pass over: "a test that meets a missing value does nothing"; S-2: "Range, internal, time and fill steps pass over"
+-- a humidity. Each rule begins with that test, but the fill step's, which asks for a missing cell
 abbrev pub passedOver : Cell → Bool
-passedOver c = missing c
+passedOver c = missing c || isHumidity c
 
--- "both neighbours present": a cell that the steps pass over is no neighbour in time
+-- "both neighbours present": a cell that the steps pass over is no neighbour in time; S-2: "it is no neighbour for filling or for the time step"
 abbrev pub noNeighbour : Cell → Bool
 noNeighbour c = passedOver c
 

@@ -2,7 +2,7 @@
 ghost use mathlib.Core.Path.{_≡_};
 ghost use Prim.Native.Nat.{_<_};
 ghost use lib.ListN.{set};
-ghost use Rattle.quality.specs.Cell.{missing, slot, discarded, flagged};
+ghost use Rattle.quality.specs.Cell.{missing, isHumidity, slot, discarded, flagged};
 ghost use Rattle.quality.specs.Coded.{cell, cells};
 ghost use Rattle.quality.specs.Steps.{passedOver};
 
@@ -50,11 +50,18 @@ pub fn is_missing(d: OffsetCell) -> bool
     d.state == 0
 }
 
+// Whether the cell is a humidity.
+pub fn is_humidity(d: OffsetCell) -> bool
+    ensures { λ r. ⌜ r ≡ isHumidity (cell d) ⌝ }
+{
+    d.state == 4
+}
+
 // Whether the steps pass over the cell.
 pub fn passed_over(d: OffsetCell) -> bool
     ensures { λ r. ⌜ r ≡ passedOver (cell d) ⌝ }
 {
-    is_missing(d)
+    is_missing(d) | is_humidity(d)
 }
 
 // Missing, with the flag.

@@ -1,4 +1,5 @@
 // The steps of "Settling a station" on one element's column: each makes a new column from the one that the step before left.
+// A cell's three numbers are stored in place: in a loop that is not unrolled, `put` would copy the column at every turn.
 ghost use mathlib.Core.Path.{_≡_};
 ghost use Prim.Native.Nat.{_<_};
 ghost use Rattle.quality.specs.Coded.{cells, limitsOf};
@@ -21,8 +22,10 @@ pub fn range_column(l: OffsetLimits, c: Column) -> Column
 {
     let mut r = c;
     for k in 0..9 {
-        let d = range_cell(l, at(c, k));
-        r = put(r, k, d);
+        let x = range_cell(l, at(c, k));
+        r.values[k] = x.value;
+        r.states[k] = x.state;
+        r.flags[k] = x.flag;
     }
     r
 }
@@ -34,7 +37,9 @@ pub fn dew_column(t: Column, d: Column) -> Column
     let mut r = d;
     for k in 0..9 {
         let x = dew_cell(at(t, k), at(d, k));
-        r = put(r, k, x);
+        r.values[k] = x.value;
+        r.states[k] = x.state;
+        r.flags[k] = x.flag;
     }
     r
 }
@@ -46,7 +51,9 @@ pub fn wind_column(dd: [u8; 9], w: Column) -> Column
     let mut r = w;
     for k in 0..9 {
         let x = wind_cell(dd[k], at(w, k));
-        r = put(r, k, x);
+        r.values[k] = x.value;
+        r.states[k] = x.state;
+        r.flags[k] = x.flag;
     }
     r
 }
@@ -67,7 +74,9 @@ pub fn time_column(mends: bool, c: Column) -> Column
     let mut r = c;
     for k in 1..8 {
         let x = time_cell(mends, at(c, k - 1), at(c, k), at(c, k + 1));
-        r = put(r, k, x);
+        r.values[k] = x.value;
+        r.states[k] = x.state;
+        r.flags[k] = x.flag;
     }
     r
 }
@@ -79,7 +88,9 @@ pub fn fill_column(c: Column) -> Column
     let mut r = c;
     for k in 1..8 {
         let x = fill_cell(at(c, k - 1), at(c, k), at(c, k + 1));
-        r = put(r, k, x);
+        r.values[k] = x.value;
+        r.states[k] = x.state;
+        r.flags[k] = x.flag;
     }
     r
 }

@@ -84,9 +84,9 @@ unfolding whole neighbour small bytes bytesFrom table
     Ranges.isDay Ranges.isHour Ranges.isUnit Ranges.isTime Ranges.isStation Ranges.rangedFrom
     Refusal.ofGroups Refusal.refusal Shapes.areDigits Shapes.shapedFrom
     Digits.two Digits.three Digits.four
-    Tables.temperatureOf Elements.temperature Tables.pressureOf Elements.pressure Tables.windOf Elements.windFf Elements.windFff Tables.cloudOf Elements.cloud Tables.visibilityOf Elements.visibility Tables.rainOf Elements.rain
+    Tables.temperatureOf Elements.temperature Tables.moistureOf Elements.moisture Tables.pressureOf Elements.pressure Tables.windOf Elements.windFf Elements.windFff Tables.cloudOf Elements.cloud Tables.visibilityOf Elements.visibility Tables.rainOf Elements.rain
     Tables.rainIndicatorOf Indicators.rainIndicator Tables.windDirectionOf Indicators.windDirection Indicators.rainDurationOf Indicators.rainDuration
-    OneGroup.charactersOf OneGroup.temperature OneGroup.pressure OneGroup.windFf OneGroup.windFff OneGroup.cloud OneGroup.visibility OneGroup.rain OneGroup.rainIndicator OneGroup.rainDuration OneGroup.windDirection
+    OneGroup.charactersOf OneGroup.temperature OneGroup.moisture OneGroup.pressure OneGroup.windFf OneGroup.windFff OneGroup.cloud OneGroup.visibility OneGroup.rain OneGroup.rainIndicator OneGroup.rainDuration OneGroup.windDirection
     Contents.twoOf Contents.stationOf Contents.identificationOf Contents.indicatorsOf Contents.windOf Contents.valuesOf
     Parts.ofOne Parts.ofThree Parts.ofLater Parts.first Parts.parts
     Report.content Report.read Report.report

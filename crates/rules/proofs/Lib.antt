@@ -17,3 +17,4 @@ pub mod WrongEngines
 pub mod Examples
 pub mod FormExamples
 pub mod ProofTable
+pub mod Humidities

@@ -9,7 +9,7 @@ use mathlib.Core.Path.{_≡_, sym, _∙_, ap, subst}
 use mathlib.Core.Bool.{true}
 use mathlib.Core.List.{List, [], _∷_}
 use mathlib.Core.Logic.{inl, inr}
-use Prim.Native.Nat.{ℕ, zero, suc, _<_}
+use Prim.Native.Nat.{ℕ, zero, suc, _+_, _<_}
 use native.Mathlib.Decide.{decLt}
 use native.Mathlib.Omega.{arith}
 use borrow.Author.Tests.{le-leb, lt-ltb}
@@ -31,11 +31,11 @@ direction d (inl l) = rw (le-leb d 36 l)
 direction d (inr (inl e)) = rw e
 direction d (inr (inr e)) = rw e
 
--- each of a list's values fits a cell
-each-within : (vs : List Value) → AllWithin vs → (e : ℕ) → Within (getD vs e missing)
-each-within [] w e = tt
-each-within (v ∷ vs) w zero = w .0
-each-within (v ∷ vs) w (suc e) = each-within vs (w .1) e
+-- each of a list's values fits the cell of its element
+each-within : (from : ℕ) (vs : List Value) → AllWithin from vs → (k e : ℕ) → e ≡ from + k → Within e (getD vs k missing)
+each-within from [] w k e q = tt
+each-within from (v ∷ vs) w zero e q = subst (λ (d : ℕ). Within d v) (omega arith) (w .0)
+each-within from (v ∷ vs) w (suc k) e q = each-within (suc from) vs (w .1) k e (omega arith)
 
 pub report-bounds : ReportBounds
 report-bounds =
@@ -47,7 +47,7 @@ report-bounds =
             indicator = r .1 .indicator;
             duration = r .1 .duration;
             direction = direction _ (r .1 .direction);
-            value = λ k l. each-within values (r .2 .each) k;
+            value = λ e l. each-within 0 values (r .2 .each) e e (omega arith);
           };
     }
 

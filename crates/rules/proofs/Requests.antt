@@ -13,13 +13,13 @@ use lib.ListN.{getD, List·getD-map}
 use Rattle.calendar.specs.Slots.{slotOf}
 use Rattle.calendar.specs.declared.Slot.{Slot}
 use Rattle.calendar.specs.declared.Slot.the-variants.{At, Nothing}
-use Rattle.synop_codes.specs.Value.{Value, missing, read, Within}
+use Rattle.synop_codes.specs.Value.{Value, missing, read, humidity, Within}
 use Rattle.store_layout.specs.Model.{Station, headOf}
 use Rattle.store_layout.specs.Valid.{ValidStation, isDirection}
 use Rattle.store_layout.proofs.Validity.{head-whole, valid-marked, valid-with-slot}
 use Rattle.quality.specs.Cell.{none}
 use Rattle.quality.specs.Valid.{RawCell}
-use Rattle.quality.proofs.Validity.{cell-whole, none-valid}
+use Rattle.quality.proofs.Validity.{cell-whole, none-valid, humidity-valid}
 use Rattle.synop.specs.Report.{Report, report}
 use Rattle.synop_contents.specs.declared.Indicators.{Indicators}
 use Rattle.synop_contents.specs.declared.Identification.{Identification}
@@ -59,16 +59,17 @@ pub record Fits (head : Indicators) (values : List Value) : Type 0 where
   pub indicator : head .«rain_indicator» ≤ 5
   pub duration : head .«rain_duration» ≤ 9
   pub direction : isDirection (head .«wind_direction») ≡ true
-  pub value : (e : ℕ) → e < 9 → Within (getD values e missing)
+  pub value : (e : ℕ) → e < 9 → Within e (getD values e missing)
 
 -- each report that passes the checks fits
 pub record ReportBounds : Type 0 where
   pub fits : (text : List ℕ) (h : Identification) (head : Indicators) (values : List Value) → report text ≡ Report.whole h head values → Fits head values
 
 -- a value as a raw cell of element e
-valid-raw : (e : ℕ) (v : Value) → Within v → RawCell e (rawCell v)
+valid-raw : (e : ℕ) (v : Value) → Within e v → RawCell e (rawCell v)
 valid-raw e missing w = none-valid 1 0 e
-valid-raw e (read z) w = cell-whole (record { state = lit≤ tt; flag = lit≤ tt; size = w; empty = refl })
+valid-raw e (read z) w = cell-whole (record { state = refl; flag = lit≤ tt; size = w; empty = refl })
+valid-raw e (humidity u) w = subst (λ (d : ℕ). RawCell d (rawCell (humidity u))) (sym (w .0)) (humidity-valid 1 0 u (w .1) (w .2))
 
 raw-at : (values : List Value) (e : ℕ) → getD (map rawCell values) e none ≡ rawCell (getD values e missing)
 raw-at values e = List·getD-map rawCell values e missing

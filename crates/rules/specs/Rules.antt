@@ -5,10 +5,11 @@ use mathlib.Core.Bool.{Bool, cond, _&&_}
 use mathlib.Core.List.{List, map}
 use Prim.Native.Nat.{ℕ}
 use lib.Dec.{leb, eqb}
+use lib.IntN.{pos}
 use Rattle.calendar.specs.Slots.{slotOf}
 use Rattle.calendar.specs.declared.Slot.{Slot}
 use Rattle.calendar.specs.declared.Slot.the-variants.{At, Nothing}
-use Rattle.synop_codes.specs.Value.{Value, missing, read}
+use Rattle.synop_codes.specs.Value.{Value, missing, read, humidity}
 use Rattle.daily.specs.Line.{dayLine}
 use Rattle.store_layout.specs.Model.{Block, Station, headOf}
 use Rattle.quality.specs.declared.head.SlotHead.{SlotHead}
@@ -31,10 +32,11 @@ pub data Effect : Type 0 where
   keeps : Answer → Effect
   makes : Station → Effect
 
--- a value of a report as a raw cell: state 1 read, or missing
+-- a value of a report as a raw cell: state 1 read, or missing; S-2: a humidity "with the new state 4"
 abbrev pub rawCell : Value → Cell
 rawCell missing = none
 rawCell (read v) = record { state = 1; flag = 0; value = v }
+rawCell (humidity u) = record { state = 4; flag = 0; value = pos u }
 
 -- what filing a report in slot k puts there, its head and its nine raw cells: the same in every slot
 abbrev pub filedHead : ℕ → Indicators → SlotHead

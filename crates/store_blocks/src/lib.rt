@@ -76,7 +76,8 @@ fn are_cells(store: &[u8], at: usize, states: u8, flags: u8) -> bool
     true
 }
 
-// The block that begins at a position, of a station with that settled number: heads, raw cells with state 0 or 1 and flag 0, checked cells.
+// The block that begins at a position, of a station with that settled number: heads, raw cells with state 0 or 1, or a humidity in D's, and
+// flag 0, checked cells.
 pub fn is_block(store: &[u8], at: usize, settled: u16) -> bool
     requires { ⌜ at + blockLength ≤ length (now store) ⌝ }
     ensures { λ r. ⌜ r ≡ soundBlock settled (now (store .entry)) at ⌝ }

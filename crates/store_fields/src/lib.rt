@@ -7,6 +7,9 @@ ghost use Rattle.store_layout.specs.Layout.{signed};
 ghost use Rattle.store_layout.specs.Valid.{isEntry, isHead};
 use quality::head::SlotHead;
 
+// D's number among the elements.
+const DEW_POINT: usize = 1;
+
 pub fn is_head(h: SlotHead) -> bool
     ensures { λ r. ⌜ r ≡ isHead h ⌝ }
 {
@@ -22,11 +25,14 @@ pub fn is_head(h: SlotHead) -> bool
     (h.dd <= 36) | (h.dd == 99) | (h.dd == 100)
 }
 
-// A cell of an element, its value in two's complement, with the largest state and flag that may stand there.
+// A cell of an element, its value in two's complement, with the largest state but a humidity's, and the largest flag, that may stand
+// there. A humidity stands in D's cells alone.
 pub fn is_cell(element: usize, state: u8, flag: u8, value: u16, states: u8, flags: u8) -> bool
     ensures { λ r. ⌜ r ≡ isCell states flags element (record { state = state; flag = flag; value = signed value }) ⌝ }
 {
-    if states < state {
+    let humidity = (element == DEW_POINT) & (state == 4) & ((1 <= value) & (value <= 100));
+    let stands = (state <= states) | humidity;
+    if !stands {
         return false;
     }
     if flags < flag {

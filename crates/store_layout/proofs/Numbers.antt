@@ -5,18 +5,19 @@
 --     value-signed, unsigned-value          two's complement and offset binary
 -- Assumes nothing.
 use mathlib.Core.Path.{_≡_, sym, _∙_, ap}
-use mathlib.Core.Bool.{not}
+use mathlib.Core.Bool.{not, _&&_}
 use mathlib.Core.List.{List, [], _∷_}
 use Prim.Native.Nat.{ℕ, suc, _+_, _*_, _-_, _/_, _%_, _<_, _≤_}
 use native.Mathlib.Decide.{ℕ-discrete}
 use native.Mathlib.Omega.{arith}
-use borrow.Author.Tests.{lt-ltb, le-ltb, le-leb, ne-eqb}
+use borrow.Author.Tests.{lt-ltb, le-ltb, le-leb, lt-leb, ne-eqb}
 use mathlib.Core.Logic.{_⊎_, inl, inr}
 use lib.Dec.{leb, eqb}
 use lib.IntN.{ℤ, pos, negsuc, natAbs}
 use Rattle.laws.specs.Offset.{value}
-use Rattle.laws.proofs.Bools.{cond-true, cond-false}
+use Rattle.laws.proofs.Bools.{cond-true, cond-false, and-false-right}
 use Rattle.laws.proofs.Offset.{side, sub-below, sub-above}
+use Rattle.quality.specs.Cell.{isPercent}
 use Rattle.store_layout.specs.Layout.{word, long, wordBytes, longBytes, signed, unsigned}
 use Rattle.store_layout.specs.Framed.{Bytes}
 
@@ -93,6 +94,14 @@ zero-test w h = go (side w 32768)
     go : (w < 32768) ⊎ (32768 ≤ w) → eqb (natAbs (signed w)) 0 ≡ eqb w 0
     go (inl l) = rw (signed-low w l)
     go (inr l) = rw (signed-high w l, ne-eqb w 0 (λ e. omega arith)) (ne-eqb (suc (65535 - w)) 0 (λ e. omega arith))
+
+-- 1 to 100, as a word
+pub percent-test : (w : ℕ) → w < 65536 → isPercent (signed w) ≡ (leb 1 w && leb w 100)
+percent-test w h = go (side w 32768)
+  where
+    go : (w < 32768) ⊎ (32768 ≤ w) → isPercent (signed w) ≡ (leb 1 w && leb w 100)
+    go (inl l) = rw (signed-low w l)
+    go (inr l) = rw (signed-high w l) (sym (and-false-right (leb 1 w) (leb w 100) (lt-leb w 100 (omega arith))))
 
 -- ---- two's complement and offset binary: the same value, the top bit turned
 pub value-signed : (w : ℕ) → w < 65536 → value ((w + 32768) % 65536) ≡ signed w

@@ -16,7 +16,7 @@ use Rattle.calendar.proofs.Dates.{real}
 use Rattle.quality.specs.Cell.{Cell, slot}
 use Rattle.quality.specs.Elements.{column}
 use Rattle.quality.specs.Valid.{ValidCell, ValidSheet}
-use Rattle.quality.proofs.Validity.{cell-parts, raw-sheet-valid}
+use Rattle.quality.proofs.Validity.{cell-parts, state-most, raw-sheet-valid}
 use Rattle.store_layout.specs.Model.{Block, Station, Store, headOf, stationAt}
 use Rattle.quality.specs.declared.head.SlotHead.{SlotHead}
 use Rattle.store_layout.specs.Valid.{isDirection, ValidHead, ValidBlock, ValidStation, ValidStore}
@@ -49,9 +49,9 @@ bytes-of-head h v =
 
 pub bytes-of-cell : {e : ℕ} (c : Cell) → ValidCell e c → Bytes (encodeCell c)
 unfolding encodeCell
-bytes-of-cell c v =
+bytes-of-cell {e} c v =
     let p = cell-parts v in
-    bytes-more (omega (arith, p .state))
+    bytes-more (omega (arith, state-most e c v))
     (bytes-more (omega (arith, p .flag)) (bytes-of-word (unsigned (c .value)) (unsigned-below (c .value) (omega (arith, p .size)))))
 
 pub bytes-of-sheet : (s : List (List Cell)) → ValidSheet s → Bytes (encodeSheet s)

@@ -15,11 +15,11 @@ use Rattle.store_layout.specs.Valid.{isHead, isEntry}
 abbrev pub soundHead : List ℕ → ℕ → Bool
 soundHead s at = isHead (decodeHead s at)
 
--- the cell of element e at a position, with the largest state and flag that may stand there
+-- the cell of element e at a position, with the largest state but a humidity's, and the largest flag, that may stand there
 abbrev pub soundCell : ℕ → ℕ → ℕ → List ℕ → ℕ → Bool
 soundCell states flags e s at = isCell states flags e (decodeCell s at)
 
--- "Raw cells have state 0 or 1, flag 0."
+-- "Raw cells have state 0 or 1, flag 0."; a humidity, too, flag 0
 abbrev pub soundRaw : ℕ → List ℕ → ℕ → Bool
 soundRaw = soundCell 1 0
 

@@ -1,11 +1,11 @@
 -- The code tables: what a number in a group stands for, by document 01, "Values", and the head's iR and dd by "The store". A
 -- name ends in Of, since the number is that of certain digits; a sign, iw and PPPP's first digit are characters.
 -- Assumes nothing.
-use mathlib.Core.Bool.{cond, _||_}
+use mathlib.Core.Bool.{cond, _&&_, _||_}
 use Prim.Native.Nat.{ℕ, _+_, _-_, _*_, _/_}
 use lib.Dec.{leb, eqb}
 use lib.IntN.{pos, negℤ}
-use Rattle.synop_codes.specs.Value.{Value, missing, read}
+use Rattle.synop_codes.specs.Value.{Value, missing, read, humidity}
 
 -- the character of the digit d
 abbrev pub char : ℕ → ℕ
@@ -14,6 +14,14 @@ char d = 48 + d
 -- T, D, X, M: "sign 0 or 1 (1 negative), then tenths of °C. Another sign: missing."
 unfoldable pub temperatureOf : ℕ → ℕ → Value
 temperatureOf sign n = cond (eqb sign (char 0)) (read (pos n)) (cond (eqb sign (char 1)) (read (negℤ (pos n))) missing)
+
+-- S-2, 29UUU: "a humidity in percent (001 to 100) or nothing"
+unfoldable pub humidityOf : ℕ → Value
+humidityOf uuu = cond (leb 1 uuu && leb uuu 100) (humidity uuu) missing
+
+-- group 2 of section 1: a humidity after 9, else D's sign
+unfoldable pub moistureOf : ℕ → ℕ → Value
+moistureOf sign n = cond (eqb sign (char 9)) (humidityOf n) (temperatureOf sign n)
 
 -- P: "4PPPP; PPPP beginning 0 adds 10000, beginning 9 stands as it is, else missing"
 unfoldable pub pressureOf : ℕ → ℕ → Value

@@ -3,13 +3,20 @@
 ghost use mathlib.Core.Path.{_≡_};
 ghost use Prim.Native.Nat.{_<_};
 ghost use lib.IntN.{pos, negℤ};
-ghost use Rattle.synop_codes.specs.Value.{meaning, read};
+ghost use Rattle.synop_codes.specs.Value.{meaning, moisture, read};
 ghost use Rattle.synop_codes.specs.Tables as tables;
 
 // A value of an element: missing, or a number v of its unit, kept in offset binary as v + 32768.
 pub enum Value {
     Missing,
     Read(u16),
+}
+
+// What group 2 of section 1 gives: a dew point, as `Value::Read` has it, a humidity in percent (1 to 100), or nothing.
+pub enum Moisture {
+    Nothing,
+    DewPoint(u16),
+    Humidity(u8),
 }
 
 // ---- values of the elements
@@ -39,6 +46,30 @@ pub fn temperature_of(sign: u8, n: u32) -> Value
         b'0' => above(n),
         b'1' => below(n),
         _ => Value::Missing,
+    }
+}
+
+// A humidity in percent, from UUU of 29UUU.
+fn humidity_of(uuu: u32) -> Moisture
+    ensures { λ r. ⌜ moisture r ≡ tables.humidityOf uuu ⌝ }
+{
+    match uuu {
+        1..=100 => Moisture::Humidity(uuu as u8),
+        _ => Moisture::Nothing,
+    }
+}
+
+// D or a humidity, from the sign's character, which is 9 before a humidity, and the number.
+pub fn moisture_of(sign: u8, n: u32) -> Moisture
+    requires { ⌜ n < 1000 ⌝ }
+    ensures { λ r. ⌜ moisture r ≡ tables.moistureOf sign n ⌝ }
+{
+    if sign == b'9' {
+        return humidity_of(n);
+    }
+    match temperature_of(sign, n) {
+        Value::Missing => Moisture::Nothing,
+        Value::Read(d) => Moisture::DewPoint(d),
     }
 }
 

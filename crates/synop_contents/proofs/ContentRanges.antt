@@ -3,7 +3,7 @@
 use mathlib.Core.Path.{_≡_, refl}
 use mathlib.Core.Bool.{Bool, true, false, cond}
 use mathlib.Core.List.{List, [], _∷_}
-use Prim.Native.Nat.{_≤_}
+use Prim.Native.Nat.{ℕ, suc, _≤_}
 use lib.ListN.{length}
 use Rattle.synop_codes.specs.Value.{Value, Within}
 use Rattle.synop_codes.proofs.CodeRanges.{Direction}
@@ -21,14 +21,14 @@ pub record IndicatorsFit (d : Indicators) : Type 0 where
   pub duration : d .«rain_duration» ≤ 9
   pub direction : Direction (d .«wind_direction»)
 
--- each value fits a cell
-abbrev pub AllWithin : List Value → Type 0
-AllWithin [] = Unit {0}
-AllWithin (v ∷ vs) = Within v × AllWithin vs
+-- each value fits the cell of its element, the first being that of element e
+abbrev pub AllWithin : ℕ → List Value → Type 0
+AllWithin e [] = Unit {0}
+AllWithin e (v ∷ vs) = Within e v × AllWithin (suc e) vs
 
 pub record ValuesFit (vs : List Value) : Type 0 where
   pub nine : length vs ≡ 9
-  pub each : AllWithin vs
+  pub each : AllWithin 0 vs
 
 -- ---- of any groups
 pub indicators-fit : (visibility wind rain : Group) → IndicatorsFit (indicatorsOf visibility wind rain)
@@ -36,11 +36,11 @@ unfolding indicatorsOf
 indicators-fit visibility wind rain =
     record { indicator = bounds.rainIndicator-range visibility; duration = bounds.rainDuration-range rain; direction = bounds.windDirection-range wind }
 
-wind-within : (time wind gale : Group) → Within (windOf time wind gale)
+wind-within : (e : ℕ) (time wind gale : Group) → Within e (windOf time wind gale)
 unfolding windOf
-wind-within time wind gale = either (isSent gale) (group.windFff time gale) (group.windFf time wind) (bounds.windFff-within time gale) (bounds.windFf-within time wind)
+wind-within e time wind gale = either (isSent gale) (group.windFff time gale) (group.windFf time wind) (bounds.windFff-within e time gale) (bounds.windFf-within e time wind)
   where
-    either : (b : Bool) (v w : Value) → Within v → Within w → Within (cond b v w)
+    either : (b : Bool) (v w : Value) → Within e v → Within e w → Within e (cond b v w)
     either true v w h k = h
     either false v w h k = k
 
@@ -51,18 +51,18 @@ values-fit kept rain =
     record {
       nine = refl;
       each = (
-        bounds.temperature-within (g parts.temperature),
+        bounds.temperature-within 0 (g parts.temperature),
         (
-          bounds.temperature-within (g parts.dewPoint),
+          bounds.moisture-within (g parts.dewPoint),
           (
-            bounds.pressure-within (g parts.pressure),
+            bounds.pressure-within 2 (g parts.pressure),
             (
-              wind-within (g parts.time) (g parts.wind) (g parts.gale),
+              wind-within 3 (g parts.time) (g parts.wind) (g parts.gale),
               (
-                bounds.cloud-within (g parts.wind),
+                bounds.cloud-within 4 (g parts.wind),
                 (
-                  bounds.visibility-within (g parts.visibility),
-                  (bounds.rain-within rain, (bounds.temperature-within (g parts.maximum), (bounds.temperature-within (g parts.minimum), tt))),
+                  bounds.visibility-within 5 (g parts.visibility),
+                  (bounds.rain-within 6 rain, (bounds.temperature-within 7 (g parts.maximum), (bounds.temperature-within 8 (g parts.minimum), tt))),
                 ),
               ),
             ),

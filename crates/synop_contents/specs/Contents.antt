@@ -6,7 +6,7 @@ use Prim.Native.Nat.{ℕ, _+_, _*_}
 use Rattle.synop_figures.specs.Digits.{digit, two, four, given}
 use Rattle.synop_figures.specs.OneGroup as group
 use Rattle.synop_figures.specs.OneGroup.{charactersOf}
-use Rattle.synop_codes.specs.Value.{Value, meaning}
+use Rattle.synop_codes.specs.Value.{Value, meaning, moisture}
 use Rattle.synop_figures.specs.declared.Number.{Number}
 use Rattle.synop_text.specs.declared.Group.{Group}
 use Rattle.synop_contents.specs.Parts as parts
@@ -56,7 +56,7 @@ windOf time wind gale = cond (isSent gale) (group.windFff time gale) (group.wind
 unfoldable pub valuesOf : List Group → Group → List Value
 valuesOf kept rain =
     group.temperature (part kept parts.temperature)
-    ∷ group.temperature (part kept parts.dewPoint)
+    ∷ group.moisture (part kept parts.dewPoint)
     ∷ group.pressure (part kept parts.pressure)
     ∷ windOf (part kept parts.time) (part kept parts.wind) (part kept parts.gale)
     ∷ group.cloud (part kept parts.wind)
@@ -70,7 +70,7 @@ valuesOf kept rain =
 abbrev pub listed : Values → List Value
 listed v =
     meaning (v .temperature)
-    ∷ meaning (v .«dew_point»)
+    ∷ moisture (v .moisture)
     ∷ meaning (v .pressure)
     ∷ meaning (v .wind)
     ∷ meaning (v .cloud)

@@ -16,6 +16,7 @@ use crate::parts::TIME;
 use crate::parts::VISIBILITY;
 use crate::parts::WIND;
 use crate::parts::is_sent;
+use synop_codes::Moisture;
 use synop_codes::Value;
 use synop_figures::Characters;
 use synop_figures::Number;
@@ -37,10 +38,10 @@ pub struct Indicators {
     pub wind_direction: u8,
 }
 
-// The nine elements, in the order of the store.
+// The nine elements, in the order of the store; the second is D, or a humidity in its place.
 pub struct Values {
     pub temperature: Value,
-    pub dew_point: Value,
+    pub moisture: Moisture,
     pub pressure: Value,
     pub wind: Value,
     pub cloud: Value,
@@ -111,7 +112,7 @@ pub fn values_of(kept: [Group; PARTS], rain: Group) -> Values
 {
     Values {
         temperature: synop_figures::temperature(kept[TEMPERATURE]),
-        dew_point: synop_figures::temperature(kept[DEW_POINT]),
+        moisture: synop_figures::moisture(kept[DEW_POINT]),
         pressure: synop_figures::pressure(kept[PRESSURE]),
         wind: wind_of(kept[TIME], kept[WIND], kept[GALE]),
         cloud: synop_figures::cloud(kept[WIND]),

@@ -3,12 +3,16 @@
 -- Assumes nothing.
 use Prim.Native.Nat.{ℕ}
 use Rattle.synop_codes.specs.Value.{Value, missing}
-use Rattle.synop_codes.specs.Tables.{temperatureOf, pressureOf, windOf, cloudOf, visibilityOf, rainOf}
+use Rattle.synop_codes.specs.Tables.{temperatureOf, moistureOf, pressureOf, windOf, cloudOf, visibilityOf, rainOf}
 use Rattle.synop_figures.specs.Digits.{digit, two, three, four, given}
 
 -- T, D, X, M: the sign, then three digits
 unfoldable pub temperature : ℕ → ℕ → ℕ → ℕ → Value
 temperature sign a b c = given (three a b c) missing (temperatureOf sign)
+
+-- D or a humidity: the sign or 9, then three digits
+unfoldable pub moisture : ℕ → ℕ → ℕ → ℕ → Value
+moisture sign a b c = given (three a b c) missing (moistureOf sign)
 
 -- P: "4PPPP"
 unfoldable pub pressure : ℕ → ℕ → ℕ → ℕ → Value

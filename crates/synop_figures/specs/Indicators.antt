@@ -1,7 +1,7 @@
 -- What a slot's head keeps, from a group's characters: iR, tR and dd, by document 01, "The store" and "Values".
 -- Assumes nothing.
 use Prim.Native.Nat.{ℕ}
-use Rattle.synop_codes.specs.Value.{Value, missing, read}
+use Rattle.synop_codes.specs.Value.{Value, missing, read, humidity}
 use Rattle.synop_codes.specs.Tables.{rainIndicatorOf, windDirectionOf}
 use Rattle.synop_figures.specs.Digits.{digit, two, given}
 use Rattle.synop_figures.specs.Elements.{rain}
@@ -16,10 +16,11 @@ windDirection a b = given (two a b) 100 windDirectionOf
 unfoldable pub rainDurationOf : ℕ → ℕ
 rainDurationOf t = given (digit t) 0 (λ n. n)
 
--- "R missing: tR kept as 0"
+-- "R missing: tR kept as 0"; R is no humidity
 abbrev pub kept : Value → ℕ → ℕ
 kept missing t = 0
 kept (read r) t = t
+kept (humidity u) t = t
 
 unfoldable pub rainDuration : ℕ → ℕ → ℕ → ℕ → ℕ
 rainDuration a b c t = kept (rain a b c) (rainDurationOf t)

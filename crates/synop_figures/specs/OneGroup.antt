@@ -14,9 +14,13 @@ charactersOf g =
     onFive (record { a = 0; b = 0; c = 0; d = 0; e = 0 }) (λ a b c d e. record { a = a; b = b; c = c; d = d; e = e }) g
 
 -- ---- values of the elements
--- T, D, X, M of 1sTTT, 2sTTT
+-- T, X, M of 1sTTT, 2sTTT
 unfoldable pub temperature : Group → Value
 temperature g = elements.temperature (charactersOf g .b) (charactersOf g .c) (charactersOf g .d) (charactersOf g .e)
+
+-- D of 2sTTT, or a humidity of 29UUU: group 2 of section 1
+unfoldable pub moisture : Group → Value
+moisture g = elements.moisture (charactersOf g .b) (charactersOf g .c) (charactersOf g .d) (charactersOf g .e)
 
 -- P of 4PPPP
 unfoldable pub pressure : Group → Value

@@ -2,14 +2,16 @@
 // slot's head keeps. Which group is which is found elsewhere. Every group is answered: a character that should be a digit and is
 // none counts as `/`.
 ghost use mathlib.Core.Path.{_≡_};
-ghost use Rattle.synop_codes.specs.Value.{meaning};
+ghost use Rattle.synop_codes.specs.Value.{meaning, moisture};
 ghost use Rattle.synop_figures.specs.Digits as digits;
 ghost use Rattle.synop_figures.specs.OneGroup as group;
 ghost use Rattle.synop_figures.specs.Indicators as indicators;
+use synop_codes::Moisture;
 use synop_codes::Value;
 use synop_codes::cloud_of;
 use synop_codes::direction_of;
 use synop_codes::indicator_of;
+use synop_codes::moisture_of;
 use synop_codes::pressure_of;
 use synop_codes::rain_of;
 use synop_codes::temperature_of;
@@ -104,7 +106,7 @@ pub fn characters_of(g: Group) -> Characters
 
 // ---- values of the elements
 
-// T, D, X and M, from 1sTTT or 2sTTT: tenths of °C.
+// T, X and M, from 1sTTT or 2sTTT: tenths of °C.
 pub fn temperature(g: Group) -> Value
     ensures { λ r. ⌜ meaning r ≡ group.temperature g ⌝ }
 {
@@ -112,6 +114,17 @@ pub fn temperature(g: Group) -> Value
     match three(x.c, x.d, x.e) {
         Number::Slash => Value::Missing,
         Number::Digits(n) => temperature_of(x.b, n),
+    }
+}
+
+// D, from 2sTTT: tenths of °C; or a humidity in percent, from 29UUU.
+pub fn moisture(g: Group) -> Moisture
+    ensures { λ r. ⌜ moisture r ≡ group.moisture g ⌝ }
+{
+    let x = characters_of(g);
+    match three(x.c, x.d, x.e) {
+        Number::Slash => Moisture::Nothing,
+        Number::Digits(n) => moisture_of(x.b, n),
     }
 }
 

@@ -12,7 +12,7 @@
 //     # a comment
 //
 // A cell is printed as its state, flag and value. A day line: the means of T, D, P, W, C and vapour pressure (`-` absent, read or mended, in
-// eighths), the rain, the warmest and the coldest slot, and the counts of cells in states 1, 2, 3 and 0.
+// eighths), the rain, the warmest and the coldest slot, and the counts of cells read, corrected, filled and missing.
 //
 // `stdout` was not made by this program. It is what the second reading of the paper in plain Rust prints for the same `stdin`
 // (`tests/rust`, `reference_calls`); the comments in `stdin` say which number the paper's order of tests asks for.

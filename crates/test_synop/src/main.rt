@@ -1,7 +1,8 @@
 // Reads texts from standard input, a line each, in which `~` stands for LF and `^` for CR, and writes a line for each: the number
 // that it is refused with; or `NIL`, its station, day and hour; or these with iR, tR, dd and T, D, P, W, C, V, R, X, M, `-` for a
-// missing one.
+// missing one, and in the place of D a humidity with `%` after it.
 use synop::Report;
+use synop_codes::Moisture;
 use synop_codes::Value;
 use synop_contents::Identification;
 use synop_contents::Indicators;
@@ -59,9 +60,20 @@ fn value(v: Value) {
     }
 }
 
+fn moisture(m: Moisture) {
+    match m {
+        Moisture::Nothing => value(Value::Missing),
+        Moisture::DewPoint(n) => value(Value::Read(n)),
+        Moisture::Humidity(u) => {
+            number(u as u32);
+            io::write_all(1, b"%");
+        }
+    }
+}
+
 fn values(v: Values) {
     let temperature = v.temperature;
-    let dew_point = v.dew_point;
+    let second = v.moisture;
     let pressure = v.pressure;
     let wind = v.wind;
     let cloud = v.cloud;
@@ -70,7 +82,7 @@ fn values(v: Values) {
     let maximum = v.maximum;
     let minimum = v.minimum;
     value(temperature);
-    value(dew_point);
+    moisture(second);
     value(pressure);
     value(wind);
     value(cloud);

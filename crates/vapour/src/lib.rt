@@ -33,7 +33,7 @@ fn pressure_in(table: &[u16], dew_point: u16) -> Pressure
     Pressure::Hundredths(table::at(table, (dew_point - LOWEST) as usize))
 }
 
-// The vapour pressures at nine dew points. The table is copied once for all of them.
+// The vapour pressures at nine dew points, or temperatures in their place. The table is copied once for all of them.
 pub fn pressures(dew_points: [u16; 9]) -> [Pressure; 9]
     ensures { λ r. ⌜ map told r ≡ map pressureAt «dew_points» ⌝ }
 {

@@ -8,6 +8,7 @@ pub mod texts;
 
 use crate::calls::Calls;
 use crate::reference::layout::store_length;
+use crate::reference::store::D;
 use crate::reference::vapour;
 use rng::Rng;
 use std::fmt;
@@ -372,8 +373,9 @@ fn hand_made(rng: &mut Rng) -> Vec<Step> {
         let index = rng.below(scene.weather.len());
         let station = scene.opening.stations[index];
         let call = match rng.below(10) {
-            0..=2 => Call::Settle { station },
-            3..=6 => Call::Day { station },
+            0 | 1 => Call::Settle { station },
+            2..=5 => Call::Day { station },
+            6 | 7 => look(rng, station),
             _ => scene.any_call(rng),
         };
         steps.push(if rng.chance(50) { damaged(rng, &scene.opening, call) } else { Step::Call(call) });
@@ -382,6 +384,12 @@ fn hand_made(rng: &mut Rng) -> Vec<Step> {
         }
     }
     steps
+}
+
+/// A cell of any element and slot, half of the time D's.
+fn look(rng: &mut Rng, station: u32) -> Call {
+    let element = if rng.chance(50) { D } else { rng.below(9) };
+    Call::Cell { station, element: element as u32, slot: rng.below(9) as u32 }
 }
 
 fn damaged(rng: &mut Rng, opening: &Opening, call: Call) -> Step {

@@ -1,14 +1,17 @@
 //! A stand-in for libesfenruk.a: the reference behind the same C names, right or with one fault, to see
 //! that the comparison notices.
 
+mod humidity;
+
 use crate::calls::{Calls, Reference};
 use crate::reference::layout::{Field, Record, ENTRY, FLAG, HEADER, SETTLED, STATE, ZERO};
 use crate::reference::store;
+use humidity::humid_temperatures_read;
 use std::slice;
 use std::sync::atomic::{AtomicUsize, Ordering};
 
 /// What the mock can do wrong; the first is nothing.
-pub const FAULTS: [&str; 20] = [
+pub const FAULTS: [&str; 34] = [
     "no fault",
     "open leaves the last byte as it was",
     "a refused open writes a byte",
@@ -29,6 +32,20 @@ pub const FAULTS: [&str; 20] = [
     "the vapour table's last entry is the one before it",
     "a slice of another length than the vapour table's is written to",
     "the vapour table needs whatever length the slice has",
+    "29101 is read as a humidity",
+    "29UUU of section 3 is read as a minimum",
+    "internal discards a humidity above T",
+    "time tests a dew point beside a humidity",
+    "fill takes a humidity for a neighbour",
+    "fill replaces a humidity between two dew points",
+    "a humidity's vapour pressure is taken at the raw T",
+    "a humidity's vapour pressure is rounded down",
+    "a humidity's slot is not mended where T was filled",
+    "D's mean takes a humidity for a dew point",
+    "D's mean is absent for a humidity in slot 8",
+    "a humidity is in no count",
+    "a humidity in T's cells is sound",
+    "cell gives a humidity as a value read",
 ];
 
 static FAULT: AtomicUsize = AtomicUsize::new(0);
@@ -110,6 +127,9 @@ unsafe extern "C" fn esfenruk_file(
     if (fault(6) && number == 8) || (fault(7) && number == 0 && nil) {
         set(store, entry, SETTLED, 0);
     }
+    if number == 0 {
+        humidity::filed(store, text);
+    }
     number
 }
 
@@ -117,6 +137,9 @@ unsafe extern "C" fn esfenruk_file(
 unsafe extern "C" fn esfenruk_settle(store: *mut u8, store_len: usize, station: u32) -> u32 {
     let store = lent_mut(store, store_len);
     let number = Reference.settle(store, station);
+    if number == 0 {
+        humidity::settled(store, station);
+    }
     if fault(8) && number == 0 {
         let n = store::stations(store);
         for record in Record::all(n).filter(|record| matches!(record, Record::Checked { .. })) {
@@ -145,6 +168,12 @@ unsafe extern "C" fn esfenruk_cell(
     if fault(10) && number != 0 {
         *out = [0; 3];
     }
+    if fault(32) && number == 9 {
+        return Reference.cell(&humid_temperatures_read(store), station, element, slot, &mut *out);
+    }
+    if fault(33) && number == 0 && (*out)[0] == store::HUMIDITY.into() {
+        (*out)[0] = store::READ.into();
+    }
     number
 }
 
@@ -172,6 +201,12 @@ unsafe extern "C" fn esfenruk_day(
     }
     if fault(13) && number != 0 {
         means[5] = 0.0;
+    }
+    if fault(32) && number == 9 {
+        return Reference.day(&humid_temperatures_read(store), station, means, numbers);
+    }
+    if number == 0 {
+        humidity::day(store, station, means, numbers);
     }
     number
 }

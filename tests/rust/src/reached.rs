@@ -6,7 +6,8 @@ use crate::generate::{Answer, Call, Step};
 use crate::reference::calendar::Date;
 use crate::reference::layout::{self, field_at, stations_for, store_length, Record};
 use crate::reference::report::{self, groups, is_blank, Observation};
-use crate::reference::store;
+use crate::reference::store::{self, Cell, D, HUMIDITY, T};
+use crate::reference::{values, vapour};
 use std::collections::BTreeMap;
 
 /// The rows: the answers of each call, then the rest.
@@ -29,6 +30,8 @@ pub const ROWS: &[(&str, &[u32])] = &[
     ("unsound: checked cell's field", first(layout::CELL_FIELDS.len())),
     // 0 none, 1 less than a header, 2 too short, 3 too long for its n.
     ("unsound: length", &[0, 1, 2, 3]),
+    // What makes a cell of state 4 unsound: 0 the element, 1 the value, 2 a raw cell's flag, 3 a checked cell's.
+    ("unsound: humidity", &[0, 1, 2, 3]),
     ("file: bytes of an accepted text", &[511, 512]),
     ("file: bytes of a text refused 1", &[0, 1, 512, 513]),
     ("file: slot", &[0, 1, 2, 3, 4, 5, 6, 7, 8]),
@@ -39,8 +42,11 @@ pub const ROWS: &[(&str, &[u32])] = &[
     ("file: iw with 00fff", &[0, 1, 3, 4]),
     ("file: R from section", &[0, 1, 3]),
     ("file: in a 55 run, first digit", &[0, 1, 2, 3, 4, 5, 6]),
+    ("file: UUU in section 1", &[0, 1, 100, 101, 999]),
+    ("file: UUU in section 1, place of a `/`", &[0, 1, 2]),
+    ("file: UUU in section 3", &[0, 1, 100, 101]),
     ("T read", &[0, 1]),
-    ("D read", &[0, 1]),
+    ("D read", &[0, 1, 4]),
     ("P read", &[0, 1]),
     ("W read", &[0, 1]),
     ("C read", &[0, 1]),
@@ -49,7 +55,7 @@ pub const ROWS: &[(&str, &[u32])] = &[
     ("X read", &[0, 1]),
     ("M read", &[0, 1]),
     ("settle: T's state", &[0, 1, 2, 3]),
-    ("settle: D's state", &[0, 1, 3]),
+    ("settle: D's state", &[0, 1, 3, 4]),
     ("settle: P's state", &[0, 1, 3]),
     ("settle: W's state", &[0, 1, 3]),
     ("settle: C's state", &[0, 1]),
@@ -66,12 +72,22 @@ pub const ROWS: &[(&str, &[u32])] = &[
     ("settle: R's flag", &[0, 1, 4]),
     ("settle: X's flag", &[0, 1, 4]),
     ("settle: M's flag", &[0, 1, 4]),
+    // 0 by internal, above T; 1 by time, far from both dew points beside it; as a neighbour: 2 by time, of a dew point
+    // far from it and from the other one; 3 by fill, of a missing D with another one.
+    ("settle: a humidity passed over", &[0, 1, 2, 3]),
+    ("cell: state", &[0, 1, 2, 3, 4]),
+    ("cell: a humidity's flag", &[0, 1, 2, 3, 4]),
     ("day: T's mean", &[0, 1, 2]),
     ("day: D's mean", &[0, 1, 2]),
     ("day: P's mean", &[0, 1, 2]),
     ("day: W's mean", &[0, 1, 2]),
     ("day: C's mean", &[0, 1, 2]),
     ("day: vapour's mean", &[0, 1, 2]),
+    ("day: vapour's mean with a humidity", &[0, 1, 2]),
+    // T's state, or 4 where it lies outside the table.
+    ("day: T at a humidity", &[0, 1, 2, 3, 4]),
+    // Where D is there in all other slots of 0 to 7, so that the humidity alone decides on its mean.
+    ("day: slot of the one humidity", &[0, 1, 2, 3, 4, 5, 6, 7, 8]),
     ("day: rain", &[0, 1]),
     // 0 absent, else one more than the slot.
     ("day: warmest", &[0, 1, 2, 3, 4, 5, 6, 7, 8]),
@@ -93,10 +109,10 @@ const fn first(n: usize) -> &'static [u32] {
     NUMBERS.split_at(n).0
 }
 
-const READ: usize = 25;
+const READ: usize = 29;
 const STATE: usize = READ + 9;
 const FLAG: usize = STATE + 9;
-const MEAN: usize = FLAG + 9;
+const MEAN: usize = FLAG + 12;
 
 /// How often each number came up in each row.
 #[derive(Default)]
@@ -126,7 +142,11 @@ impl Reached {
             (_, 9) => self.unsound(store, edits),
             (Call::File { text }, number) => self.file(text, store, number),
             (Call::Settle { station }, 0) => self.settle(*station, store),
-            (Call::Day { .. }, 0) => self.day(answer),
+            (Call::Cell { .. }, 0) => self.cell(answer),
+            (Call::Day { station }, 0) => {
+                self.day(answer);
+                self.humid_day(*station, store, answer);
+            }
             (Call::Bulletin { text }, number) => self.bulletin(text, number, answer.counts),
             (Call::VapourTable { entries }, _) => {
                 self.add("vapour_table: numbers lent", entries.len() as u32)
@@ -170,6 +190,22 @@ impl Reached {
             Record::Checked { .. } => "unsound: checked cell's field",
         };
         self.add(row, field as u32);
+        self.unsound_humidity(store, n, record);
+    }
+
+    /// The one thing that makes a cell of state 4 unsound, in a buffer as long as a store of n stations.
+    fn unsound_humidity(&mut self, store: &[u8], n: usize, record: Record) {
+        let (element, flags) = match record {
+            Record::Raw { element, .. } => (element, 0),
+            Record::Checked { element, .. } => (element, 4),
+            _ => return,
+        };
+        let cell = Cell::from_bytes(std::array::from_fn(|i| store[record.at(n) + i]));
+        let wrong = [element != D, !(1..=100).contains(&cell.value), cell.flag > flags];
+        let mut wrong = (0..).zip(wrong).filter(|&(_, wrong)| wrong);
+        if let (HUMIDITY, Some((which, _)), None) = (cell.state, wrong.next(), wrong.next()) {
+            self.add("unsound: humidity", if flags == 4 && which == 2 { 3 } else { which });
+        }
     }
 
     fn file(&mut self, text: &[u8], store: &[u8], number: u32) {
@@ -210,6 +246,19 @@ impl Reached {
             _ => 0,
         };
         self.add("file: R from section", rain);
+        if let Some([b'2', b'9', uuu @ ..]) = found.section1[2] {
+            if let Some(percent) = values::number(uuu) {
+                self.add("file: UUU in section 1", percent as u32);
+            }
+            for (place, _) in (0..).zip(uuu).filter(|&(_, &byte)| byte == b'/') {
+                self.add("file: UUU in section 1, place of a `/`", place);
+            }
+        }
+        if let Some([b'2', b'9', uuu @ ..]) = found.section3[2] {
+            if let Some(percent) = values::number(uuu) {
+                self.add("file: UUU in section 3", percent as u32);
+            }
+        }
     }
 
     /// The sections of an accepted report, and the groups of its 55 runs.
@@ -239,11 +288,31 @@ impl Reached {
 
     fn settle(&mut self, station: u32, store: &[u8]) {
         let Ok(index) = store::find(store, station) else { return };
-        for cells in store::checked_sheet(store::block(store, index)) {
+        let sheet = store::checked_sheet(store::block(store, index));
+        for cells in sheet {
             for (element, cell) in cells.iter().enumerate() {
                 self.add(ROWS[STATE + element].0, cell.state.into());
                 self.add(ROWS[FLAG + element].0, cell.flag.into());
             }
+        }
+        for slot in 0..9 {
+            if matches!((sheet[slot][D].humidity(), read(sheet[slot][T])), (Some(h), Some(t)) if h > t) {
+                self.add("settle: a humidity passed over", 0);
+            }
+        }
+        for slot in 1..8 {
+            let three = [slot - 1, slot, slot + 1].map(|slot| sheet[slot][D]);
+            if let Some(number) = passed_over(three) {
+                self.add("settle: a humidity passed over", number);
+            }
+        }
+    }
+
+    fn cell(&mut self, answer: &Answer) {
+        let [state, flag, _] = answer.cell.map(|number| number as u32);
+        self.add("cell: state", state);
+        if state == u32::from(HUMIDITY) {
+            self.add("cell: a humidity's flag", flag);
         }
     }
 
@@ -255,6 +324,26 @@ impl Reached {
         self.add("day: rain", numbers[6] - 1);
         self.add("day: warmest", numbers[8]);
         self.add("day: coldest", numbers[9]);
+    }
+
+    /// A day with humidities.
+    fn humid_day(&mut self, station: u32, store: &[u8], answer: &Answer) {
+        let Ok(index) = store::find(store, station) else { return };
+        let sheet = store::checked_sheet(store::block(store, index));
+        let humid: Vec<usize> = (0..9).filter(|&slot| sheet[slot][D].humidity().is_some()).collect();
+        for &slot in humid.iter().filter(|&&slot| slot < 8) {
+            let t = sheet[slot][T];
+            let outside = t.get().is_some_and(|t| vapour::pressure(t).is_none());
+            self.add("day: T at a humidity", if outside { 4 } else { t.state.into() });
+        }
+        if humid.first().is_some_and(|&slot| slot < 8) {
+            self.add("day: vapour's mean with a humidity", answer.numbers[5] as u32);
+        }
+        if let [slot] = humid[..] {
+            if (0..8).all(|other| other == slot || sheet[other][D].get().is_some()) {
+                self.add("day: slot of the one humidity", slot as u32);
+            }
+        }
     }
 
     fn bulletin(&mut self, text: &[u8], number: u32, counts: [u32; 2]) {
@@ -285,6 +374,31 @@ impl Reached {
             _ => 1,
         };
         self.add("bulletin: accepted", kind);
+    }
+}
+
+/// The value of a checked cell that no step changed.
+fn read(cell: Cell) -> Option<i32> {
+    cell.get().filter(|_| cell.state == store::READ)
+}
+
+/// How a humidity among three of D's checked cells in a row was passed over by time or fill, if it was.
+fn passed_over([a, v, b]: [Cell; 3]) -> Option<u32> {
+    let far = |x: i32, y: i32| (x - y).abs() > 100;
+    let apart = |a, v, b| far(v, a) && far(v, b);
+    match (a.humidity(), v.humidity(), b.humidity()) {
+        (None, Some(h), None) => apart(read(a)?, h, read(b)?).then_some(1),
+        (Some(h), None, None) => beside(h, v, read(b)?, apart),
+        (None, None, Some(h)) => beside(h, v, read(a)?, apart),
+        _ => None,
+    }
+}
+
+/// The same for D between a humidity and another dew point.
+fn beside(humidity: i32, v: Cell, other: i32, apart: impl Fn(i32, i32, i32) -> bool) -> Option<u32> {
+    match read(v) {
+        Some(v) => apart(humidity, v, other).then_some(2),
+        None => v.is_missing().then_some(3),
     }
 }
 

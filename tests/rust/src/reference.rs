@@ -1,5 +1,5 @@
-//! The papers in plain Rust, section by section: document 01's calls on a lent buffer, and S-1 of document 02
-//! (`vapour::fill`), which has no buffer of that kind.
+//! The papers in plain Rust, section by section: document 01's calls on a lent buffer; of document 02, S-1
+//! (`vapour::fill`), which has no buffer of that kind, and S-2, a humidity in D's cell.
 //!
 //! Written from the papers alone. Every call on a buffer but open tests the whole of it first, and a refused
 //! call writes nothing.

@@ -5,7 +5,7 @@ use crate::generate::stores::{fresh, Edits, Opening};
 use crate::generate::{no_entries, Call, Step};
 use crate::reference;
 use crate::reference::layout::{self, store_length, Field, Record, DD, FILED, TR};
-use crate::reference::store::{self, Cell, Head, C, D, M, P, R, T, W, X};
+use crate::reference::store::{self, Cell, Head, C, D, FILLED, HUMIDITY, M, MISSING, P, R, READ, T, W, X};
 use crate::reference::vapour;
 
 /// Steps, one after the other.
@@ -13,7 +13,7 @@ type Take<'a> = &'a mut dyn FnMut(Step);
 
 type Sweep = fn(Take);
 
-pub const SWEEPS: [(&str, Sweep); 22] = [
+pub const SWEEPS: [(&str, Sweep); 27] = [
     ("each byte of a store, each value", bytes_of_a_store),
     ("each field of a store, beside where soundness turns", fields_of_a_store),
     ("each cell's state, flag and value together", cells_of_a_store),
@@ -36,6 +36,11 @@ pub const SWEEPS: [(&str, Sweep); 22] = [
     ("short lists of groups", short_lists),
     ("one edit of a text", edits_of_texts),
     ("lengths of the vapour table", lengths_of_the_table),
+    ("29UUU", humidity_groups),
+    ("a humidity in each cell", humid_cells),
+    ("humidities through the steps", humid_steps),
+    ("each T with a humidity", humid_temperatures),
+    ("day lines with humidities", humid_days),
 ];
 
 const STATION: u32 = 40001;
@@ -100,8 +105,11 @@ const FIGURES: &[u8] = b"0123456789/";
 
 fn bytes_of_a_store(take: Take) {
     let mut store = opened([2024, 4, 11], 0);
-    let text = b"AAXX 11061 40001 12360 62704 10103 20071 40132 60042 333 10120 20080=";
-    reference::file(&mut store, text).expect("a good report");
+    let dew_point = b"AAXX 11061 40001 12360 62704 10103 20071 40132 60042 333 10120 20080=";
+    let humidity = b"AAXX 11121 40001 12360 62704 10103 29080=";
+    for text in [dew_point.as_slice(), humidity] {
+        reference::file(&mut store, text).expect("a good report");
+    }
     reference::settle(&mut store, STATION).expect("a station");
     for at in 0..store.len() {
         take(Step::Lend(store.clone()));
@@ -510,4 +518,104 @@ fn lengths_of_the_table(take: Take) {
     let mut entries = vec![0; vapour::LENGTH];
     vapour::fill(&mut entries).expect("the table's length");
     take(Step::Call(Call::VapourTable { entries }));
+}
+
+/// As group 2 of section 1 and of section 3.
+fn humidity_groups(take: Take) {
+    lend(take);
+    for uuu in strings(FIGURES, 3) {
+        file_anew(take, format!("AAXX 11061 40001 ///// ///// 29{uuu}=").into());
+        file_anew(take, format!("AAXX 11061 40001 ///// ///// 333 29{uuu}=").into());
+    }
+}
+
+/// Sound in D's alone, with some of these values and flags; each is looked at.
+fn humid_cells(take: Take) {
+    for (i, element) in (0..162).map(|i| (i, i % 9)) {
+        let slot = i / 9 % 9;
+        let record = if i < 81 { raw(slot, element) } else { checked(slot, element) };
+        lend(take);
+        for value in [-1, 0, 1, 50, 100, 101] {
+            for flag in 0..=5 {
+                let mut edits = whole_cell(record, Cell { state: HUMIDITY, flag, value });
+                edits.extend(settled());
+                let call = Call::Cell { station: STATION, element: element as u32, slot: slot as u32 };
+                take(Step::Damaged { edits, call });
+            }
+        }
+    }
+}
+
+/// Three of D's raw cells in a row, dew points, humidities or missing, in slots 0 to 2 and 6 to 8; then a humidity with
+/// each T beside it.
+fn humid_steps(take: Take) {
+    let dew_points = [-151, -101, -100, -99, -51, -50, -1, 0, 1, 49, 51, 100, 101, 149, 151, 200, 201, 202];
+    let cells: Vec<Cell> = (dew_points.map(|value| Cell::raw(Some(value))).into_iter())
+        .chain([1, 50, 100].map(Cell::raw_humidity))
+        .chain([Cell::MISSING])
+        .collect();
+    lend(take);
+    for a in &cells {
+        for (v, b) in cells.iter().flat_map(|v| cells.iter().map(move |b| (v, b))) {
+            let three = [(0, a), (1, v), (2, b), (6, a), (7, v), (8, b)];
+            let edits = three.into_iter().flat_map(|(slot, &cell)| whole_cell(raw(slot, D), cell)).collect();
+            take(Step::Damaged { edits, call: Call::Settle { station: STATION } });
+        }
+    }
+    for t in -160..=490 {
+        for percent in [1, 50, 100] {
+            let mut edits = whole_cell(raw(4, D), Cell::raw_humidity(percent));
+            edits.extend(cell(raw(4, T), Some(t)));
+            take(Step::Damaged { edits, call: Call::Settle { station: STATION } });
+        }
+    }
+}
+
+/// The same humidity and the same T in all slots: every T that a sound store can hold, in turn read, corrected and
+/// filled, with 1, 50 and 100 percent; those of the table, and one beside each end, with every humidity.
+fn humid_temperatures(take: Take) {
+    lend(take);
+    let mut day = |t: i16, percent: i16| {
+        let state = READ + (t as u16 % 3) as u8;
+        let mut edits = settled();
+        for slot in 0..9 {
+            edits.extend(whole_cell(checked(slot, T), Cell { state, flag: 0, value: t }));
+            edits.extend(whole_cell(checked(slot, D), Cell::raw_humidity(percent)));
+        }
+        take(Step::Damaged { edits, call: Call::Day { station: STATION } });
+    };
+    for t in -i16::MAX..=i16::MAX {
+        [1, 50, 100].into_iter().for_each(|percent| day(t, percent));
+    }
+    for t in -501..=501 {
+        (1..=100).for_each(|percent| day(t, percent));
+    }
+}
+
+/// Dew points in all slots but one or two, which hold humidities of each flag, where T is missing, read, corrected or
+/// filled, at the ends of the table and beside them; the dew points in turn read, corrected and filled.
+fn humid_days(take: Take) {
+    lend(take);
+    let values = [-501, -500, 0, 215, 500, 501];
+    let there = (READ..=FILLED).flat_map(|state| values.map(|value| (state, value)));
+    let temperatures: Vec<(u8, i16)> = there.chain([(MISSING, 0)]).collect();
+    let mut day = |slots: [usize; 2], t: Cell, dew: u8, flag: u8| {
+        let mut edits = settled();
+        for slot in 0..9 {
+            let humid = slots.contains(&slot);
+            let read = Cell { state: READ, flag: 0, value: 100 + slot as i16 };
+            let dew_point = Cell { state: dew, flag: 0, value: 60 + slot as i16 };
+            let humidity = Cell { state: HUMIDITY, flag, value: 11 * slot as i16 + 1 };
+            edits.extend(whole_cell(checked(slot, T), if humid { t } else { read }));
+            edits.extend(whole_cell(checked(slot, D), if humid { humidity } else { dew_point }));
+        }
+        take(Step::Damaged { edits, call: Call::Day { station: STATION } });
+    };
+    for slots in (0..81).map(|i| [i / 9, i % 9]) {
+        for &(state, value) in &temperatures {
+            for (dew, flag) in (READ..=FILLED).flat_map(|dew| (0..=4).map(move |flag| (dew, flag))) {
+                day(slots, Cell { state, flag, value }, dew, flag);
+            }
+        }
+    }
 }

@@ -22,8 +22,8 @@ fn file(store: &mut [u8], text: &str) -> u32 {
 fn settled(reports: &[&str]) -> Vec<u8> {
     let mut store = opened(&[1]);
     for (slot, groups) in reports.iter().enumerate() {
-        let hour = 6 + 3 * slot;
-        assert_eq!(file(&mut store, &format!("AAXX 11{hour:02}1 00001 42999 00000 {groups}=")), 0);
+        let (day, hour) = if slot < 6 { (11, 6 + 3 * slot) } else { (12, 3 * (slot - 6)) };
+        assert_eq!(file(&mut store, &format!("AAXX {day}{hour:02}1 00001 42999 00000 {groups}=")), 0);
     }
     reference::settle(&mut store, 1).unwrap();
     store
@@ -31,6 +31,10 @@ fn settled(reports: &[&str]) -> Vec<u8> {
 
 fn temperature(store: &[u8], slot: u32) -> Cell {
     reference::cell(store, 1, 0, slot).unwrap()
+}
+
+fn dew_point(store: &[u8], slot: u32) -> Cell {
+    reference::cell(store, 1, 1, slot).unwrap()
 }
 
 #[test]
@@ -51,6 +55,124 @@ fn proof_table() {
     let hot = settled(&["10480", "10481"]);
     assert_eq!(temperature(&hot, 0), Cell { state: 1, flag: 4, value: 480 });
     assert_eq!(temperature(&hot, 1), Cell { state: 0, flag: 1, value: 0 });
+}
+
+fn humidity(percent: i16) -> Cell {
+    Cell { state: 4, flag: 0, value: percent }
+}
+
+#[test]
+fn a_humidity_is_read() {
+    let raw = |groups: &str| store::raw_sheet(store::block(&settled(&[groups]), 0))[0];
+    for (group, percent) in [("29001", 1), ("29050", 50), ("29099", 99), ("29100", 100)] {
+        assert_eq!(raw(group)[store::D], humidity(percent), "{group}");
+    }
+    for group in ["29000", "29101", "29110", "29999", "29/50", "290/0", "2905/", "29///", "28050", "2/050"] {
+        assert_eq!(raw(group)[store::D], Cell::MISSING, "{group}");
+    }
+    assert_eq!(raw("20050")[store::D], Cell { state: 1, flag: 0, value: 50 });
+    assert_eq!(raw("333 29050"), raw(""));
+    assert_eq!(raw("19050"), raw(""));
+}
+
+#[test]
+fn a_humidity_is_passed_over() {
+    let read = |value| Cell { state: 1, flag: 0, value };
+    // Above T, T missing.
+    let alone = settled(&["11020 29090", "29090"]);
+    assert_eq!([0, 1].map(|slot| dew_point(&alone, slot)), [humidity(90), humidity(90)]);
+    // Far from both dew points beside it.
+    let between = settled(&["10250 20240", "10250 29010", "10250 20240"]);
+    assert_eq!([0, 1, 2].map(|slot| dew_point(&between, slot)), [read(240), humidity(10), read(240)]);
+    // A dew point far from it and from the other one; the same with a dew point in its place.
+    let beside = settled(&["10200 20000", "10200 20150", "10200 29010"]);
+    assert_eq!(dew_point(&beside, 1), read(150));
+    let plain = settled(&["10200 20000", "10200 20150", "10200 20010"]);
+    assert_eq!(dew_point(&plain, 1), Cell { state: 3, flag: 3, value: 5 });
+    // Missing beside it, and between two dew points.
+    let missing =
+        settled(&["10200 20000", "10200", "10200 29010", "10200", "10200 20020", "10200", "10200 20031"]);
+    let left: Vec<Cell> = (1..6).map(|slot| dew_point(&missing, slot)).collect();
+    let filled = Cell { state: 3, flag: 0, value: 26 };
+    assert_eq!(left, [Cell::MISSING, humidity(10), Cell::MISSING, read(20), filled]);
+}
+
+/// T's, D's and vapour's mean, and the counts.
+fn humid_day(store: &[u8]) -> ([Mean; 3], [u32; 4]) {
+    let line = reference::day(store, 1).unwrap();
+    ([line.means[0], line.means[1], line.means[5]], line.counts)
+}
+
+#[test]
+fn the_day_line_of_a_humidity() {
+    use Mean::{Absent, Mended, Read};
+    // At 10.0 °C: 1229 over water, 615 with half of it (614.5), 12 with a hundredth of it (12.29).
+    let mut reports = ["10100 29050"; 9];
+    assert_eq!(humid_day(&settled(&reports)), ([Read(100.0), Absent, Read(615.0)], [36, 0, 0, 45]));
+    assert_eq!(humid_day(&settled(&["10100 29001"; 8])).0[2], Read(12.0));
+    assert_eq!(humid_day(&settled(&["10100 29100"; 8])).0[2], Read(1229.0));
+    // T filled; T missing.
+    reports[3] = "29050";
+    assert_eq!(humid_day(&settled(&reports)), ([Mended(100.0), Absent, Mended(615.0)], [35, 0, 1, 45]));
+    reports[4] = "29050";
+    assert_eq!(humid_day(&settled(&reports)), ([Absent, Absent, Absent], [34, 0, 0, 47]));
+    // Among dew points, then in slot 8 alone.
+    reports = ["10100 20100"; 9];
+    reports[7] = "10100 29050";
+    assert_eq!(humid_day(&settled(&reports)).0, [Read(100.0), Absent, Read((7 * 1229 + 615) as f64 / 8.0)]);
+    reports[7] = "10100 20100";
+    reports[8] = "10100 29050";
+    assert_eq!(humid_day(&settled(&reports)), ([Read(100.0), Read(100.0), Read(1229.0)], [36, 0, 0, 45]));
+}
+
+/// The T that was mended, 7.0 °C for −7.0, gives the vapour pressure.
+#[test]
+fn a_humidity_over_a_corrected_t() {
+    let mut reports = ["10080 29100"; 8];
+    (reports[0], reports[1]) = ("10060 29100", "11070 29100");
+    let store = settled(&reports);
+    assert_eq!(temperature(&store, 1), Cell { state: 2, flag: 3, value: 70 });
+    let sum: i32 = [60, 70, 80, 80, 80, 80, 80, 80].into_iter().filter_map(vapour::pressure).sum();
+    assert_eq!(humid_day(&store).0[2], Mean::Mended(f64::from(sum) / 8.0));
+}
+
+/// By hand: T at the ends of the table and beyond. The flags of both cells add nothing.
+#[test]
+fn a_humidity_over_any_t() {
+    let mut store = opened(&[1]);
+    store::set_settled(&mut store, 0, 1);
+    for (t, pressure) in [(-32767, None), (-501, None), (-500, Some(3)), (500, Some(6210)), (501, None)] {
+        let mut sheet = [[Cell::MISSING; 9]; 9];
+        for cells in &mut sheet {
+            cells[store::T] = Cell { state: 1, flag: 4, value: t };
+            cells[store::D] = Cell { state: 4, flag: 3, value: 50 };
+        }
+        store::put_checked(store::block_mut(&mut store, 0), &sheet);
+        let mean = pressure.map_or(Mean::Absent, |number| Mean::Read(f64::from(number)));
+        assert_eq!(humid_day(&store), ([Mean::Read(t.into()), Mean::Absent, mean], [18, 0, 0, 63]), "{t}");
+        assert_eq!(dew_point(&store, 8), Cell { state: 4, flag: 3, value: 50 });
+    }
+}
+
+/// State 4 in D's cells alone, 1 to 100, a raw one with flag 0.
+#[test]
+fn where_a_humidity_is_sound() {
+    let fresh = opened(&[10, 20]);
+    for (element, slot) in (0..81).map(|i| (i % 9, i / 9)) {
+        for (record, flags) in [
+            (Record::Raw { index: 1, element, slot }, 0..=0),
+            (Record::Checked { index: 1, element, slot }, 0..=4),
+        ] {
+            for (flag, value) in (0..=5).flat_map(|flag| [-32768, -1, 0, 1, 100, 101, 257].map(|v| (flag, v)))
+            {
+                let mut store = fresh.clone();
+                let cell = Cell { state: 4, flag, value };
+                (record.at(2)..).zip(cell.to_bytes()).for_each(|(at, byte)| store[at] = byte);
+                let sound = element == store::D && flags.contains(&flag) && (1..=100).contains(&value);
+                assert_eq!(store::sound(&store), sound, "{record:?} {cell:?}");
+            }
+        }
+    }
 }
 
 fn vapour_table() -> Vec<u16> {
@@ -188,6 +310,17 @@ fn the_printed_day() {
         let mut lines = DayLines::default();
         input.chunks(size).for_each(|piece| lines.feed(piece));
         assert_eq!(lines.finish(), "40001 - 0 0 7 0 0 74\nrefused 0\n");
+    }
+}
+
+/// The same with a humidity, which counts as read, and with 29000, which is missing.
+#[test]
+fn the_printed_day_with_29uuu() {
+    for (group, counts) in [("29080", "7 0 0 74"), ("29000", "6 0 0 75")] {
+        let mut lines = DayLines::default();
+        lines.feed(b"2024 4 11 40001 0\n");
+        lines.feed(format!("AAXX 11061 40001 12360 62704 10103 {group} 40132 60042=\n").as_bytes());
+        assert_eq!(lines.finish(), format!("40001 - 0 0 {counts}\nrefused 0\n"));
     }
 }
 

@@ -6,8 +6,8 @@ use Prim.Native.Nat.{_-_}
 use native.Mathlib.Omega.{arith}
 use borrow.Author.Needs.{needs}
 use Rattle.laws.proofs.Bools.{and-eq}
-use Rattle.quality.specs.Cell.{there}
 use Rattle.quality.specs.Coded.{cell, cells}
+use Rattle.quality.specs.Steps.{passedOver}
 use Rattle.daily.specs.Means.{repaired, sum}
 use Rattle.daily_means.proofs.Sums.{Running, all-turn, done, sum-turn}
 use Rattle.daily_means.proofs.tally_of.Statement.{statement}
@@ -25,16 +25,16 @@ loop-holds c = record { upto = search needs; most = search needs; sum = refl; co
 
 loop-again : tie.Need-loop-again Inv-loop μ-loop
 loop-again c =
-    let l = c .before .before .before .before .before .before in
+    let l = c .before .before .before .before in
     let xs = cells (l .before .args .c) in
-    let r = c .before .before .before .before .at in
+    let r = c .before .before .at in
     record {
       upto = search needs;
       most = search needs;
       sum = sum-turn xs (l .loop .k) (cell (r .result)) (r .ensures) (l .loop .sum) (r .result .value) refl (l .loop .inv .sum);
       complete =
-          and-eq {r = l .loop .complete} refl (ap not (c .before .before .is-missing .ensures))
-          ∙ all-turn xs (l .loop .k) (cell (r .result)) (r .ensures) there (l .loop .complete) (l .loop .inv .complete);
+          and-eq {r = l .loop .complete} refl (ap not (c .passed-over .ensures))
+          ∙ all-turn xs (l .loop .k) (cell (r .result)) (r .ensures) (λ x. not (passedOver x)) (l .loop .complete) (l .loop .inv .complete);
       plain = all-turn xs (l .loop .k) (cell (r .result)) (r .ensures) (λ x. not (repaired x)) (l .loop .plain) (l .loop .inv .plain);
     }
 

@@ -8,6 +8,7 @@ use Rattle.daily.specs.Line.{dayLine}
 use Rattle.daily.specs.Line as Line
 use Rattle.daily.specs.Coded.{Says}
 use Rattle.store_layout.specs.Model.{Block}
+use Rattle.quality.specs.Valid.{ValidSheet}
 use Prim.Native.Nat.{_+_}
 use Rattle.laws.proofs.Bools.{via, and-left, and-right, cond-true, cond-false}
 use borrow.Author.Tests.{not-true, not-false, leb-true}
@@ -62,9 +63,6 @@ part-heads-of-end c = search needs
 heads-of-requires : tie.Need-heads-of-requires
 heads-of-requires c κs = search needs
 
-day-line-requires : tie.Need-day-line-requires
-day-line-requires c κs = search needs
-
 returns-2 : tie.Need-returns-2
 unfolding dayOf
 returns-2 c =
@@ -79,6 +77,17 @@ returns-2 c =
     subst (SaysDay (reply.Line (c .day-line .result))) (sym (cond-true _ _ _ (via (c .before .before .before .before .before .before .before .is-settled .ensures) (not-false _ (c .before .before .before .before .before .before .if1 .left)))))
     (subst (Says (c .day-line .result))
     (ap₂ dayLine (c .before .heads-of .ensures ∙ ap (λ (x : Block). x .heads) e) (c .before .before .before .sheet-of .ensures ∙ ap (λ (x : Block). x .checked) e)) (c .day-line .ensures))
+
+day-line-requires : tie.Need-day-line-requires
+day-line-requires c κs =
+    let o = c .before .before .before .before .before .before .before .before in
+    let s = o .args .store .now in
+    let g = o .pre .0 in
+    let l = o .pre .1 in
+    let i = o .args .index in
+    let p = c .before .before .before .before .block-start .ensures .0 in
+    let e = Stores.part-block s g i l _ _ p refl in
+    subst ValidSheet (sym (c .before .before .sheet-of .ensures ∙ ap (λ (x : Block). x .checked) e)) (Stores.valid-station s g i l .block .checked)
 
 pub give-day-spec : {M : Type 1} → statement M
 give-day-spec =

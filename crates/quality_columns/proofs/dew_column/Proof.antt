@@ -8,28 +8,30 @@ use Rattle.laws.proofs.Fill as Fill
 use Rattle.quality.specs.Steps.{dewCell, dewColumn}
 use Rattle.quality.specs.Coded.{cells}
 use Rattle.quality.specs.Cell.{slot, none}
-use Rattle.quality.proofs.Columns.{length-cells}
+use Rattle.quality.proofs.Columns.{Nine, length-cells}
+use Rattle.quality.proofs.InPlace.{filled-more}
 use Rattle.quality_columns.proofs.dew_column.Statement.{statement}
 use Rattle.quality_columns.proofs.dew_column.Tie as tie
 
 abbrev Inv-loop : tie.InvT-loop
-Inv-loop t d r₀ k₀ r k = Done (λ j. dewCell (slot (cells t) j) (slot (cells d) j)) none 9 (cells r) k
+Inv-loop t d r₀ k₀ r k = Done (λ j. dewCell (slot (cells t) j) (slot (cells d) j)) none 9 (cells r) k × Nine r
 
 abbrev μ-loop : tie.MeasureT-loop
 μ-loop t d r₀ k₀ r k = 9 - k
 
 loop-holds : tie.Need-loop-holds Inv-loop μ-loop
-loop-holds c = Fill.none _ _ _ _ (length-cells _)
+loop-holds c = (Fill.none _ _ _ _ (length-cells _), record { values = search needs; states = search needs; flags = search needs })
 
 loop-again : tie.Need-loop-again Inv-loop μ-loop
 loop-again c =
-    let l = c .before .before .before .before .before in
-    rw (c .put .ensures)
-    (Fill.more _ (l .loop .inv) (search needs) (c .before .dew-cell .ensures ∙ ap₂ dewCell (c .before .before .before .at .ensures) (c .before .before .at2 .ensures)))
+    let l = c .before .before .before .before in
+    let x = c .dew-cell .result in
+    filled-more (l .loop .r) (l .loop .k) (x .state) (x .flag) (x .value) _ (l .loop .inv) (search needs)
+    (c .dew-cell .ensures ∙ ap₂ dewCell (c .before .before .at .ensures) (c .before .at2 .ensures))
 
 returns : tie.Need-returns Inv-loop μ-loop
 unfolding dewColumn
-returns c = Fill.whole (c .before .loop .inv) (search needs)
+returns c = Fill.whole (c .before .loop .inv .0) (search needs)
 
 pub dew-column-spec : {M : Type 1} → statement M
 dew-column-spec =
@@ -38,11 +40,6 @@ dew-column-spec =
     Inv-loop
     μ-loop
     loop-holds
-    (λ c κs. search needs)
-    (λ c κs. search needs)
-    (λ c κs. tt)
-    (λ c κs. search needs)
-    (λ c. search needs)
-    (λ c. search needs)
+    (λ c κs. search needs) (λ c κs. search needs) (λ c κs. tt) (λ c. search needs) (λ c. search needs) (λ c. search needs) (λ c. search needs) (λ c. search needs) (λ c. search needs)
     loop-again
     returns)

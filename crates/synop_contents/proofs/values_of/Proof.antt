@@ -13,12 +13,12 @@ values-of-spec =
     (tie.spec (λ c. search needs) (λ c κs. search needs) (λ c. search needs) (λ c κs. search needs) (λ c. search needs) (λ c κs. search needs) (λ c. search needs) (λ c. search needs) (λ c. search needs) (λ c κs. search needs)
     (λ c. search needs) (λ c κs. search needs) (λ c. search needs) (λ c κs. search needs) (λ c κs. search needs) (λ c. search needs) (λ c κs. search needs) (λ c. search needs) (λ c κs. search needs)
     (λ c. λ i. c .before .before .before .before .before .before .before .before .before .before .before .before .before .before .before .before .before .temperature .ensures i
-    ∷ c .before .before .before .before .before .before .before .before .before .before .before .before .before .before .before .temperature2 .ensures i
+    ∷ c .before .before .before .before .before .before .before .before .before .before .before .before .before .before .before .moisture .ensures i
     ∷ c .before .before .before .before .before .before .before .before .before .before .before .before .before .pressure .ensures i
     ∷ c .before .before .before .before .before .before .before .before .before .wind-of .ensures i
     ∷ c .before .before .before .before .before .before .before .cloud .ensures i
     ∷ c .before .before .before .before .before .visibility .ensures i
     ∷ c .before .before .before .before .rain .ensures i
-    ∷ c .before .before .temperature3 .ensures i
-    ∷ c .temperature4 .ensures i
+    ∷ c .before .before .temperature2 .ensures i
+    ∷ c .temperature3 .ensures i
     ∷ []))

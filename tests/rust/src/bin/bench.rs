@@ -100,18 +100,21 @@ fn heading(slot: u32) -> String {
     format!("{day}{hour:02}1")
 }
 
-/// A report of about 80 bytes, without its heading and `=`.
+/// A report of about 80 bytes, without its heading and `=`; one of sixteen has a humidity.
 fn body(index: u32, slot: u32) -> String {
     let t = 80 + 3 * (index % 20) + [0, 20, 45, 60, 50, 30, 15, 5, 8][slot as usize];
+    let moisture = match (index + 7 * slot) % 16 {
+        5 => format!("29{:03}", 40 + index + slot),
+        _ => format!("20{:03}", t - 30 - index % 10),
+    };
     format!(
-        "{:05} 113{:02} {}{:02}{:02} 10{:03} 20{:03} 30{:03} 40{:03} 52012 60{:02}1 333 10{:03} 20{:03}",
+        "{:05} 113{:02} {}{:02}{:02} 10{:03} {moisture} 30{:03} 40{:03} 52012 60{:02}1 333 10{:03} 20{:03}",
         station(index),
         50 + (index + slot) % 40,
         (index + slot) % 9,
         1 + (index * 5 + slot) % 36,
         1 + (index + slot) % 15,
         t,
-        t - 30 - index % 10,
         100 + slot,
         130 + (index + slot) % 40,
         1 + (index + slot) % 30,
@@ -189,7 +192,7 @@ fn works() -> Vec<Work> {
                 let mut sum = 0;
                 for &station in &lines {
                     sum += u64::from(calls.day(store, station, &mut means, &mut numbers));
-                    sum += (means[0] * 8.0) as u64 + numbers[7] as u64 + numbers[10] as u64;
+                    sum += ((means[0] + means[5]) * 8.0) as u64 + numbers[7] as u64 + numbers[10] as u64;
                 }
                 sum
             }),

@@ -5,14 +5,16 @@
 //! compare dayline PROGRAM [INPUTS [SEED]]: the program `dayline` and the reading's, on generated inputs.
 //! compare replay FILE..: the calls written in the files (see `script`).
 //! compare show FILE..: the same, printed as by trace.
+//! compare play FILE..: the calls written in the files with the answers expected (see `played`), on each of the two.
 //!
 //! The last line is 'N passed, M failed'; the status is 0 only where none failed.
 
-use reading::calls::Engine;
+use reading::calls::{Calls, Engine, Reference};
 use reading::comparison::{compare, Heard, Outcome, Pair};
 use reading::dayline::DayLines;
 use reading::fence::Fenced;
 use reading::generate::{dayline_input, Step};
+use reading::played;
 use reading::reached::{Reached, ROWS};
 use reading::sweeps::SWEEPS;
 use std::fs::File;
@@ -29,6 +31,7 @@ fn main() -> ExitCode {
         Some("dayline") => return dayline(&arguments[1..]),
         Some("replay") => return end(replay(&arguments[1..], &mut |_, _| {})),
         Some("show") => return end(replay(&arguments[1..], &mut |file, heard| print_heard(&file, heard))),
+        Some("play") => return end(play(&arguments[1..])),
         _ => {}
     }
     let number = |at: usize, default: u64| {
@@ -45,7 +48,7 @@ fn main() -> ExitCode {
 }
 
 fn usage() -> ExitCode {
-    eprintln!("usage: compare [CALLS [SEED [trace]]] | sweep | dayline PROGRAM [INPUTS [SEED]] | replay FILE.. | show FILE..");
+    eprintln!("usage: compare [CALLS [SEED [trace]]] | sweep | dayline PROGRAM [INPUTS [SEED]] | replay FILE.. | show FILE.. | play FILE..");
     ExitCode::from(2)
 }
 
@@ -134,6 +137,27 @@ fn replay(files: &[String], hear: &mut dyn FnMut(&str, Heard)) -> (u64, u64) {
         }
     }
     (outcome.passed, outcome.failed)
+}
+
+fn play(files: &[String]) -> (u64, u64) {
+    let engine = Fenced::new(&Engine);
+    let (mut passed, mut failed) = (0, 0);
+    for file in files {
+        let Ok(lines) = std::fs::read_to_string(file) else {
+            println!("{file}: cannot be read");
+            failed += 1;
+            continue;
+        };
+        for (name, calls) in [("reference", &Reference as &dyn Calls), ("engine", &engine)] {
+            let (all, differences) = played::play(calls, &lines);
+            for difference in differences.iter().take(SHOWN as usize) {
+                println!("DIFFERENCE of the {name} in {file}, {difference}");
+            }
+            passed += (all - differences.len()) as u64;
+            failed += differences.len() as u64;
+        }
+    }
+    (passed, failed)
 }
 
 fn print_heard(from: &dyn std::fmt::Display, heard: Heard) {

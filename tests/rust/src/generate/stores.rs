@@ -6,8 +6,10 @@ use crate::reference;
 use crate::reference::calendar::Date;
 pub use crate::reference::layout::Edits;
 use crate::reference::layout::{block_at, entry_at, store_length, Record};
-use crate::reference::layout::{BLOCK, ENTRY, HEADER, HEADER_FIELDS, N, NUMBER, RAW, STATE, STATION, VALUE};
-use crate::reference::store::{self, can_open, Cell, Head, Sheet};
+use crate::reference::layout::{
+    BLOCK, ENTRY, FLAG, HEADER, HEADER_FIELDS, N, NUMBER, RAW, STATE, STATION, VALUE,
+};
+use crate::reference::store::{self, can_open, Cell, Head, Sheet, D, HUMIDITY, READ, T};
 
 /// The arguments of an open call but its buffer.
 #[derive(Clone, Debug)]
@@ -161,11 +163,16 @@ pub fn hand_made(rng: &mut Rng, opening: &Opening) -> Vec<u8> {
         // So many in a hundred are missing or mended, in all of the block.
         let missing = rng.pick(&[0, 0, 1, 5, 30]);
         let mended = rng.pick(&[0, 1, 5, 50]);
-        store::put_raw(block, &any_sheet(rng, missing, 0));
+        let mut raw = any_sheet(rng, missing, 0);
+        some_humidities(rng, &mut raw, &[0]);
+        store::put_raw(block, &raw);
         let mut checked = any_sheet(rng, missing, mended);
-        if rng.chance(40) {
-            one_dew_point(rng, &mut checked);
+        for (element, percent) in [(D, 40), (T, 20)] {
+            if rng.chance(percent) {
+                one_value(rng, &mut checked, element);
+            }
         }
+        some_humidities(rng, &mut checked, &[0, 0, 1, 2, 3, 4]);
         store::put_checked(block, &checked);
     }
     store
@@ -238,12 +245,25 @@ fn any_value(rng: &mut Rng) -> i32 {
     }
 }
 
-/// The same D in all slots, so that the mean of vapour pressure is one entry of the table.
-fn one_dew_point(rng: &mut Rng, checked: &mut Sheet) {
+/// The same D, or T, in all slots, so that the mean of vapour pressure is one entry of the table, or a part of it.
+fn one_value(rng: &mut Rng, checked: &mut Sheet, element: usize) {
     let value = rng.between(-502, 502) as i16;
     for cells in checked {
-        let state = cells[store::D].state.max(store::READ);
-        cells[store::D] = Cell { state, value, ..cells[store::D] };
+        let state = cells[element].state.max(READ);
+        cells[element] = Cell { state, value, ..cells[element] };
+    }
+}
+
+/// Humidities in none, one, some or all of D's cells.
+fn some_humidities(rng: &mut Rng, sheet: &mut Sheet, flags: &[u8]) {
+    let percent = rng.pick(&[0, 0, 0, 0, 10, 40, 100]);
+    let slot = rng.chance(15).then(|| rng.below(9));
+    let one = rng.chance(30).then(|| rng.between(1, 100) as i16);
+    for (at, cells) in sheet.iter_mut().enumerate() {
+        if slot.map_or_else(|| rng.chance(percent), |slot| slot == at) {
+            let any = if rng.chance(30) { rng.pick(&[1, 50, 100]) } else { rng.between(1, 100) as i16 };
+            cells[D] = Cell { state: HUMIDITY, flag: rng.pick(flags), value: one.unwrap_or(any) };
+        }
     }
 }
 
@@ -256,12 +276,13 @@ pub fn any_edits(rng: &mut Rng, n: usize) -> Edits {
     }
     let entry = Record::Entry { index: rng.below(n) };
     let cell = any_cell(rng, n);
-    match rng.below(5) {
+    match rng.below(7) {
         0 => entry.edit(n, NUMBER, rng.pick(&[0, 1, 99999, 100000, 1 << 16, 1 << 17, u32::MAX])),
         1 => {
             let number = rng.pick(&[0, 1, 2, 12, 13, 28, 29, 30, 31, 32, 33, 1999, 2000, 2099, 2100]);
             Record::Header.edit(n, rng.pick(HEADER_FIELDS), number)
         }
+        2 | 3 => humidity_edits(rng, n),
         _ => {
             let value: i32 = rng.pick(&[-32768, -32768, -32767, 0, 1]);
             let mut edits = cell.edit(n, VALUE, value as u32);
@@ -271,6 +292,25 @@ pub fn any_edits(rng: &mut Rng, n: usize) -> Edits {
             edits
         }
     }
+}
+
+/// A humidity, or nearly one, mostly in a cell of D.
+fn humidity_edits(rng: &mut Rng, n: usize) -> Edits {
+    let (index, slot) = (rng.below(n), rng.below(9));
+    let any = rng.below(9);
+    let element = rng.pick(&[D, D, D, T, any]);
+    let cell = if rng.chance(50) {
+        Record::Raw { index, element, slot }
+    } else {
+        Record::Checked { index, element, slot }
+    };
+    let value: i32 = rng.pick(&[-32768, -1, 0, 1, 50, 100, 101, 256]);
+    let mut edits = cell.edit(n, STATE, HUMIDITY.into());
+    edits.extend(cell.edit(n, VALUE, value as u32));
+    if rng.chance(40) {
+        edits.extend(cell.edit(n, FLAG, rng.pick(&[0, 0, 1, 4, 5])));
+    }
+    edits
 }
 
 /// A raw or checked cell.

@@ -11,11 +11,14 @@ pub const PRESSURES: [i32; 6] = [9200, 9500, 9999, 10000, 10500, 10800];
 const METRES_A_SECOND: [i32; 6] = [0, 40, 41, 75, 76, 99];
 const KNOTS: [i32; 8] = [0, 45, 77, 78, 79, 99, 145, 146];
 const RAIN: [i32; 12] = [0, 1, 199, 200, 201, 499, 500, 501, 989, 990, 991, 999];
+const HUMIDITIES: [i32; 8] = [0, 0, 1, 2, 99, 100, 101, 101];
 
 /// A station's weather over an episode.
 pub struct Weather {
     /// How often, in a hundred, a value is odd.
     odd: usize,
+    /// How often, in a hundred, the dew point's sensor is down and a humidity is sent.
+    humid: usize,
     temperature: i32,
     pressure: i32,
     /// How rain is measured: 0 over 24 hours, 1 over 12, 2 over 6, 3 anyhow.
@@ -26,6 +29,7 @@ impl Weather {
     pub fn new(rng: &mut Rng) -> Weather {
         Weather {
             odd: rng.pick(&[0, 1, 3, 10, 30]),
+            humid: rng.pick(&[0, 0, 0, 0, 10, 40, 100]),
             temperature: rng.between(-150, 250),
             pressure: rng.between(9800, 10300),
             rain: rng.below(4),
@@ -176,6 +180,17 @@ fn temperature(rng: &mut Rng, weather: &Weather, first: u8, value: i32) -> Vec<u
     maybe_slashed(rng, weather, group)
 }
 
+/// 29UUU: a humidity, at times none.
+fn humidity(rng: &mut Rng, weather: &Weather) -> Vec<u8> {
+    let percent = match rng.below(10) {
+        0 => rng.pick(&HUMIDITIES),
+        1 if weather.is_odd(rng) => rng.pick(&[110, 200, 999]),
+        2 if weather.is_odd(rng) => rng.between(0, 999),
+        _ => rng.between(1, 100),
+    };
+    maybe_slashed(rng, weather, format!("29{percent:03}"))
+}
+
 /// A value near another, at times a jump that the time step looks at, or its negative.
 fn moved(rng: &mut Rng, weather: &Weather, value: i32) -> i32 {
     if !weather.is_odd(rng) && !rng.chance(4) {
@@ -206,7 +221,9 @@ fn section1(rng: &mut Rng, weather: &mut Weather, rain: &[u8], groups: &mut Vec<
     if given(rng, weather) {
         groups.push(temperature(rng, weather, 1, t));
     }
-    if given(rng, weather) {
+    if rng.chance(weather.humid) {
+        groups.push(humidity(rng, weather));
+    } else if given(rng, weather) {
         let below = if rng.chance(5) { rng.between(-3, 3) } else { rng.between(0, 60) };
         let d = or_limit(rng, weather, t - below, &TEMPERATURES);
         groups.push(temperature(rng, weather, 2, d));
@@ -269,7 +286,9 @@ fn rain(rng: &mut Rng, weather: &Weather, slot: usize) -> Vec<u8> {
 fn section3(rng: &mut Rng, weather: &Weather, rain: &[u8], groups: &mut Vec<Vec<u8>>) {
     let mut section = Vec::new();
     for first in [1, 2] {
-        if rng.chance(60) {
+        if first == 2 && rng.chance(5) {
+            section.push(humidity(rng, weather));
+        } else if rng.chance(60) {
             let value = weather.temperature + rng.between(-60, 60);
             let value = or_limit(rng, weather, value, &TEMPERATURES);
             section.push(temperature(rng, weather, first, value));
@@ -399,16 +418,18 @@ pub fn damage_groups(rng: &mut Rng, groups: &mut Vec<Vec<u8>>) {
 
 /// A word, or a group that some rule looks for.
 fn token(rng: &mut Rng) -> Vec<u8> {
-    const TOKENS: [&[u8]; 26] = [
+    const TOKENS: [&[u8]; 30] = [
         b"AAXX", b"NIL", b"333", b"444", b"555", b"222", b"666", b"111", b"BBXX", b"AAXXX", b"NILL",
         b"00000", b"22200", b"222//", b"00099", b"00///", b"00120", b"55123", b"55///", b"5/512", b"/////",
-        b"10123", b"21012", b"6990/", b"60012", b"40132",
+        b"10123", b"21012", b"6990/", b"60012", b"40132", b"29050", b"29000", b"29101", b"29/50",
     ];
     rng.pick(&TOKENS).to_vec()
 }
 
 /// The later groups of a report replaced by any tokens.
 pub fn soup(rng: &mut Rng, groups: &mut Vec<Vec<u8>>) {
+    const USUAL: [&[u8]; 9] =
+        [b"333", b"444", b"555", b"22212", b"10123", b"29080", b"60122", b"55000", b"70000"];
     groups.truncate(rng.pick(&[1, 2, 3, 4, 5, 5, 5, 5, 5, 6]));
     if let (Some(wind), true) = (groups.get_mut(4), rng.chance(30)) {
         wind.truncate(3);
@@ -421,9 +442,7 @@ pub fn soup(rng: &mut Rng, groups: &mut Vec<Vec<u8>>) {
                 let first = rng.pick(b"0123456789");
                 any_of(rng, first)
             }
-            _ => rng
-                .pick(&[b"333" as &[u8], b"444", b"555", b"22212", b"10123", b"60122", b"55000", b"70000"])
-                .to_vec(),
+            _ => rng.pick(&USUAL).to_vec(),
         };
         groups.push(group);
     }

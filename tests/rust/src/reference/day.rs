@@ -1,6 +1,6 @@
 //! "The day line".
 
-use super::store::{self, Cell, Sheet, C, CORRECTED, D, FILLED, MISSING, P, R, READ, T, W};
+use super::store::{self, Cell, Sheet, C, CORRECTED, D, FILLED, HUMIDITY, MISSING, P, R, READ, T, W};
 use super::vapour;
 
 #[derive(Clone, Copy, Debug, PartialEq)]
@@ -25,11 +25,9 @@ pub struct DayLine {
 /// The day line of a settled station.
 pub fn day_line(block: &[u8]) -> DayLine {
     let sheet = store::checked_sheet(block);
-    let values = |element: usize| (0..8).map(move |slot| sheet[slot][element]);
-    let plain = |element: usize| mean(values(element).map(|cell| (cell, cell.get())));
-    let vapour = mean(values(D).map(|cell| (cell, cell.get().and_then(vapour::pressure))));
+    let plain = |element: usize| mean(&sheet, |cells| (cells[element], cells[element].get()));
     DayLine {
-        means: [plain(T), plain(D), plain(P), plain(W), plain(C), vapour],
+        means: [plain(T), plain(D), plain(P), plain(W), plain(C), mean(&sheet, vapour_pressure)],
         rain: rain(block, &sheet),
         warmest: extreme(&sheet, |t, best| t > best),
         coldest: extreme(&sheet, |t, best| t < best),
@@ -37,11 +35,22 @@ pub fn day_line(block: &[u8]) -> DayLine {
     }
 }
 
-/// The mean of eight values, each with the cell that it is from.
-fn mean(values: impl Iterator<Item = (Cell, Option<i32>)>) -> Mean {
+/// A slot's vapour pressure, with the cell that it is from: at the dew point or, where D's cell holds a humidity, so
+/// many hundredths of the pressure at T.
+fn vapour_pressure(cells: &[Cell; 9]) -> (Cell, Option<i32>) {
+    let at = |cell: Cell| cell.get().and_then(vapour::pressure);
+    match cells[D].humidity() {
+        None => (cells[D], at(cells[D])),
+        Some(percent) => (cells[T], at(cells[T]).map(|e| (e * percent + 50) / 100)),
+    }
+}
+
+/// The mean over slots 0 to 7 of a value, which is given with the cell that it is from.
+fn mean(sheet: &Sheet, value: impl Fn(&[Cell; 9]) -> (Cell, Option<i32>)) -> Mean {
     let mut sum = 0;
     let mut mended = false;
-    for (cell, value) in values {
+    for cells in &sheet[..8] {
+        let (cell, value) = value(cells);
         let Some(value) = value else { return Mean::Absent };
         sum += value;
         mended |= cell.state == CORRECTED || cell.state == FILLED;
@@ -82,10 +91,12 @@ fn extreme(sheet: &Sheet, beats: impl Fn(i32, i32) -> bool) -> Option<u8> {
     best.map(|(slot, _)| slot)
 }
 
+/// A humidity counts as read.
 fn counts(sheet: &Sheet) -> [u32; 4] {
-    let mut by_state = [0; 4];
+    let mut by_state = [0; 5];
     for cell in sheet.as_flattened() {
         by_state[cell.state as usize] += 1;
     }
+    by_state[READ as usize] += by_state[HUMIDITY as usize];
     [READ, CORRECTED, FILLED, MISSING].map(|state| by_state[state as usize])
 }

@@ -86,7 +86,7 @@ pub const TR: Field = field("tR", 2, 1, &[9]);
 pub const DD: Field = field("dd", 3, 1, &[36, 99, 100]);
 pub const HEAD_FIELDS: &[Field] = &[FILED, IR, TR, DD];
 
-pub const STATE: Field = field("state", 0, 1, &[1, 3]);
+pub const STATE: Field = field("state", 0, 1, &[1, 3, 4]);
 pub const FLAG: Field = field("flag", 1, 1, &[4]);
 pub const VALUE: Field = field("value", 2, 2, &[32767, 32768, 65535]);
 pub const CELL_FIELDS: &[Field] = &[STATE, FLAG, VALUE];

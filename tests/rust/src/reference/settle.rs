@@ -1,4 +1,5 @@
-//! "Settling a station": four steps, each from a copy of what the step before left.
+//! "Settling a station": four steps, each from a copy of what the step before left. All of them pass over a humidity,
+//! which `Cell::get` does not give (document 02, S-2).
 
 use super::store::{self, Cell, Sheet, C, CORRECTED, D, FILLED, M, P, R, T, V, W, X};
 
@@ -129,8 +130,8 @@ fn fill(before: &Sheet) -> Sheet {
     let mut after = *before;
     for element in [T, D, P, W] {
         for slot in 1..=7 {
-            let [a, v, b] = [slot - 1, slot, slot + 1].map(|slot| before[slot][element].get());
-            if let (Some(a), None, Some(b)) = (a, v, b) {
+            let [a, b] = [slot - 1, slot + 1].map(|slot| before[slot][element].get());
+            if let (Some(a), true, Some(b)) = (a, before[slot][element].is_missing(), b) {
                 let cell = &mut after[slot][element];
                 cell.state = FILLED;
                 cell.value = middle(a, b) as i16;

@@ -26,6 +26,8 @@ pub const MISSING: u8 = 0;
 pub const READ: u8 = 1;
 pub const CORRECTED: u8 = 2;
 pub const FILLED: u8 = 3;
+/// A humidity in percent, in D's cell (document 02, S-2).
+pub const HUMIDITY: u8 = 4;
 
 #[derive(Clone, Copy, Debug, PartialEq, Eq)]
 pub struct Cell {
@@ -42,12 +44,28 @@ impl Cell {
         value.map_or(Cell::MISSING, |value| Cell { state: READ, flag: 0, value })
     }
 
-    /// The value, where there is one.
-    pub fn get(self) -> Option<i32> {
-        (self.state != MISSING).then_some(self.value.into())
+    /// A raw cell of D that holds a humidity.
+    pub fn raw_humidity(percent: i16) -> Cell {
+        Cell { state: HUMIDITY, flag: 0, value: percent }
     }
 
-    fn from_bytes(b: [u8; CELL]) -> Cell {
+    /// The value of its element, where there is one. A humidity is none: no step changes or tests it, and it is
+    /// nobody's neighbour.
+    pub fn get(self) -> Option<i32> {
+        matches!(self.state, READ | CORRECTED | FILLED).then_some(self.value.into())
+    }
+
+    /// The humidity, where D's cell holds one.
+    pub fn humidity(self) -> Option<i32> {
+        (self.state == HUMIDITY).then_some(self.value.into())
+    }
+
+    /// Nothing is there, which is what the fill step looks for.
+    pub fn is_missing(self) -> bool {
+        self.state == MISSING
+    }
+
+    pub fn from_bytes(b: [u8; CELL]) -> Cell {
         Cell { state: b[0], flag: b[1], value: i16::from_be_bytes([b[2], b[3]]) }
     }
 
@@ -142,8 +160,18 @@ fn sound_entries(entries: &[u8]) -> bool {
 
 fn sound_block(block: &[u8]) -> bool {
     block[..RAW].chunks_exact(HEAD).all(|b| sound_head(Head::from_bytes(four(b, 0))))
-        && block[RAW..CHECKED].chunks_exact(CELL).all(|b| sound_raw(Cell::from_bytes(four(b, 0))))
-        && block[CHECKED..].chunks_exact(CELL).all(|b| sound_checked(Cell::from_bytes(four(b, 0))))
+        && sound_cells(&block[RAW..CHECKED], sound_raw)
+        && sound_cells(&block[CHECKED..], sound_checked)
+}
+
+/// Nine slots of nine cells; one of D's may hold a humidity.
+fn sound_cells(bytes: &[u8], sound: impl Fn(Cell) -> bool) -> bool {
+    bytes.chunks_exact(9 * CELL).all(|slot| {
+        (0..9).all(|element| {
+            let cell = Cell::from_bytes(four(slot, CELL * element));
+            sound(cell) && (cell.state != HUMIDITY || element == D)
+        })
+    })
 }
 
 fn sound_head(head: Head) -> bool {
@@ -151,15 +179,19 @@ fn sound_head(head: Head) -> bool {
 }
 
 fn sound_raw(cell: Cell) -> bool {
-    cell.state <= READ && cell.flag == 0 && sound_value(cell)
+    cell.flag == 0 && (cell.state <= READ && sound_value(cell) || sound_humidity(cell))
 }
 
 fn sound_checked(cell: Cell) -> bool {
-    cell.state <= FILLED && cell.flag <= 4 && sound_value(cell)
+    cell.flag <= 4 && (cell.state <= FILLED && sound_value(cell) || sound_humidity(cell))
 }
 
 fn sound_value(cell: Cell) -> bool {
     cell.value != i16::MIN && (cell.state != MISSING || cell.value == 0)
+}
+
+fn sound_humidity(cell: Cell) -> bool {
+    cell.state == HUMIDITY && (1..=100).contains(&cell.value)
 }
 
 // ---- Opening ----

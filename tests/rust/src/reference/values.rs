@@ -17,18 +17,19 @@ pub fn slot(iw: u8, report: &Observation) -> (Head, [Cell; 9]) {
         tr: rain.map_or(0, |(_, tr)| tr),
         dd: wind_direction(report.wind),
     };
-    let values = [
-        report.section1[1].and_then(temperature),
-        report.section1[2].and_then(temperature),
-        report.section1[4].and_then(pressure),
-        wind_speed(iw, report),
-        cloud(report.wind),
-        number(&report.visibility[3..]).and_then(visibility),
-        rain.map(|(tenths, _)| tenths),
-        report.section3[1].and_then(temperature),
-        report.section3[2].and_then(temperature),
+    let read = |value: Option<i32>| Cell::raw(value.map(|value| value as i16));
+    let cells = [
+        read(report.section1[1].and_then(temperature)),
+        report.section1[2].map_or(Cell::MISSING, moisture),
+        read(report.section1[4].and_then(pressure)),
+        read(wind_speed(iw, report)),
+        read(cloud(report.wind)),
+        read(number(&report.visibility[3..]).and_then(visibility)),
+        read(rain.map(|(tenths, _)| tenths)),
+        read(report.section3[1].and_then(temperature)),
+        read(report.section3[2].and_then(temperature)),
     ];
-    (head, values.map(|value| Cell::raw(value.map(|value| value as i16))))
+    (head, cells)
 }
 
 /// iR: 0 to 4, else 5.
@@ -55,6 +56,15 @@ fn temperature(group: Group) -> Option<i32> {
         b'1' => Some(-tenths),
         _ => None,
     }
+}
+
+/// Section 1's group 2: a dew point, a humidity (29UUU), or nothing.
+fn moisture(group: Group) -> Cell {
+    if group[1] != b'9' {
+        return Cell::raw(temperature(group).map(|tenths| tenths as i16));
+    }
+    let percent = number(&group[2..]).filter(|percent| (1..=100).contains(percent));
+    percent.map_or(Cell::MISSING, |percent| Cell::raw_humidity(percent as i16))
 }
 
 /// 4PPPP, tenths of hPa.

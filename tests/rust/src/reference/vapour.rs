@@ -8,9 +8,9 @@ pub const LENGTH: usize = 1001;
 
 static TABLE: [u16; LENGTH] = table();
 
-/// Missing outside the table.
-pub fn pressure(dew_point: i32) -> Option<i32> {
-    let index = usize::try_from(dew_point + 500).ok()?;
+/// The entry at a dew point or, for a humidity, at T; missing outside the table.
+pub fn pressure(t: i32) -> Option<i32> {
+    let index = usize::try_from(t + 500).ok()?;
     TABLE.get(index).map(|&entry| entry.into())
 }
 

@@ -24,7 +24,7 @@ loop-again : tie.Need-loop-again Inv-loop μ-loop
 loop-again c =
     let l = c .before .before .before in
     let r = c .before .at in
-    (search needs, cell-turn (l .before .args .state) (l .loop .k) (l .loop .n) (c .same .result) (cells (l .before .args .c)) (cell (r .result)) (r .ensures) (l .loop .inv .1) (c .same .ensures .0), search needs)
+    (search needs, cell-turn (l .before .args .state) (l .loop .k) (l .loop .n) (c .counted .result) (cells (l .before .args .c)) (cell (r .result)) (r .ensures) (l .loop .inv .1) (c .counted .ensures .0), search needs)
 
 returns : tie.Need-returns Inv-loop μ-loop
 returns c =
