@@ -17,7 +17,7 @@ static void print(int absent, int32_t number)
 int main(void)
 {
     static uint8_t store[ESFENRUK_LENGTH(1)];
-    const uint32_t station = 40001;
+    const uint32_t station = 40001, ordinary = 0;
     const uint16_t row = 0;
     const char *text = "AAXX 11061 40001 12360 62704 10103 20071 40132 60042=";
     double means[6];
@@ -25,7 +25,7 @@ int main(void)
 
     uint32_t refused = esfenruk_open(store, sizeof store, 2024, 4, 11, &station, 1, &row, 1);
     if (!refused)
-        refused = esfenruk_file(store, sizeof store, (const uint8_t *)text, strlen(text));
+        refused = esfenruk_file(store, sizeof store, (const uint8_t *)text, strlen(text), ordinary);
     if (!refused)
         refused = esfenruk_settle(store, sizeof store, station);
     if (!refused)

@@ -3,6 +3,8 @@ use reading::engine::{self, Number};
 use reading::reference::layout::store_length;
 
 const STATION: u32 = 40001;
+/// The rank of a report that amends none.
+const ORDINARY: u32 = 0;
 
 fn main() -> Result<(), Number> {
     let mut store = vec![0; store_length(1)];
@@ -10,6 +12,7 @@ fn main() -> Result<(), Number> {
     engine::file(
         &mut store,
         b"AAXX 11061 40001 12360 62704 10103 20071 40132 60042=",
+        ORDINARY,
     )?;
     engine::settle(&mut store, STATION)?;
     let line = engine::day(&store, STATION)?;

@@ -8,9 +8,10 @@
 
 static uint8_t store[ESFENRUK_LENGTH(1)];
 
+/* Files an ordinary report, one of rank 0. */
 static uint32_t file(const char *text)
 {
-    return esfenruk_file(store, sizeof store, (const uint8_t *)text, strlen(text));
+    return esfenruk_file(store, sizeof store, (const uint8_t *)text, strlen(text), 0);
 }
 
 int main(void)

@@ -1,5 +1,5 @@
 /* The calls on a store of one day, for C. Link libesfenruk.a (`rt staticlib esfenruk`).
-   Each call on a store returns 0 or the refusal's number (1 to 12); a refusal changes no byte of the store and of the arrays. */
+   Each call on a store returns 0 or the refusal's number (1 to 13); a refusal changes no byte of the store and of the arrays. */
 #ifndef ESFENRUK_H
 #define ESFENRUK_H
 
@@ -11,14 +11,19 @@ extern "C" {
 #endif
 
 /* The store's length in bytes for n stations, 1 to 32. */
-#define ESFENRUK_LENGTH(n) (16 + 692 * (size_t)(n))
+#define ESFENRUK_LENGTH(n) (16 + 710 * (size_t)(n))
 
 /* Opens a store for a date and stations, ascending, each with its climate row (0 lowland, 1 hill): 0 or 10. */
 uint32_t esfenruk_open(uint8_t *store, size_t store_length, uint32_t year, uint32_t month, uint32_t day,
                        const uint32_t *stations, size_t stations_length, const uint16_t *rows, size_t rows_length);
 
-/* Files a report: 0, or 9, 1 to 8. */
-uint32_t esfenruk_file(uint8_t *store, size_t store_length, const uint8_t *text, size_t text_length);
+/* The highest rank of a report: 0 is an ordinary one, 1 to 24 are the amended ones, CCA to CCX. */
+#define ESFENRUK_HIGHEST_RANK 24
+
+/* Files a report at a rank: 0, or 9, 13 (the rank is above 24), 1 to 7, 13 (it is below that of the report in the slot), 8 (the
+   slot is filed already with this rank). A higher rank replaces the slot, head and values, and the station is no longer settled.
+   NIL is accepted at any rank up to 24 and changes nothing. */
+uint32_t esfenruk_file(uint8_t *store, size_t store_length, const uint8_t *text, size_t text_length, uint32_t rank);
 
 /* Settles a station: 0, or 9, 6. */
 uint32_t esfenruk_settle(uint8_t *store, size_t store_length, uint32_t station);
@@ -37,10 +42,12 @@ uint32_t esfenruk_cell(const uint8_t *store, size_t store_length, uint32_t stati
    read (humidities too), corrected, filled, missing. */
 uint32_t esfenruk_day(const uint8_t *store, size_t store_length, uint32_t station, double means[6], int32_t numbers[14]);
 
-/* Files the reports of a bulletin in order: 0, or 9, 1, 3, 4 for the whole. `text` is the heading `AAXX YYGGiw` and then
-   reports without it, each ended by `=`, at most 16384 bytes. The store's soundness is tested once.
+/* Files the reports of a bulletin in order, all at one rank: 0, or 9, 13 (the rank is above 24), 1, 3, 4 for the whole.
+   `text` is the heading `AAXX YYGGiw` and then reports without it, each ended by `=`, at most 16384 bytes. The store's
+   soundness is tested once.
    counts: how many reports were accepted, and how many refused. */
-uint32_t esfenruk_bulletin(uint8_t *store, size_t store_length, const uint8_t *text, size_t text_length, uint32_t counts[2]);
+uint32_t esfenruk_bulletin(uint8_t *store, size_t store_length, const uint8_t *text, size_t text_length, uint32_t rank,
+                           uint32_t counts[2]);
 
 /* How many numbers the vapour table has. */
 #define ESFENRUK_VAPOUR_TABLE 1001

@@ -10,8 +10,9 @@ fn main() {
     }
     let named = env::var("ESFENRUK_DIR").unwrap_or_else(|_| "../../target/staticlib".to_string());
     let library = Path::new(&named).join("libesfenruk.a");
-    let library = fs::canonicalize(&library)
-        .unwrap_or_else(|e| panic!("{}: {e}; set ESFENRUK_DIR to the folder of libesfenruk.a", library.display()));
+    let library = fs::canonicalize(&library).unwrap_or_else(|e| {
+        panic!("{}: {e}; set ESFENRUK_DIR to the folder of libesfenruk.a", library.display())
+    });
     println!("cargo:rerun-if-changed={}", library.display());
     println!("cargo:rustc-link-search=native={}", library.parent().unwrap().display());
     println!("cargo:rustc-link-lib=static=esfenruk");

@@ -32,60 +32,60 @@ some-piece (b ∷ s) run = go (eqb b 61) (some-piece s (run ++ b ∷ []))
     go true h = some run (pieces [] s)
     go false h = h
 
-filings-more : (head : List ℕ) (gs : List (List ℕ)) (ps : List (List ℕ)) (t : Counts) → Some ps
-    → filings ours head (gs ∷ map (λ (p : List ℕ). groups p) ps) t ≡ filings ours head (map (λ (p : List ℕ). groups p) ps) (filing ours head gs t)
+filings-more : (rank : ℕ) (head : List ℕ) (gs : List (List ℕ)) (ps : List (List ℕ)) (t : Counts) → Some ps
+    → filings ours rank head (gs ∷ map (λ (p : List ℕ). groups p) ps) t ≡ filings ours rank head (map (λ (p : List ℕ). groups p) ps) (filing ours rank head gs t)
 unfolding filings
-filings-more head gs _ t (some x xs) = refl
+filings-more rank head gs _ t (some x xs) = refl
 
-abbrev pub all : List ℕ → List ℕ → ℕ → Counts → Counts
-all head s i t = filings ours head (parted (drop i s)) t
+abbrev pub all : ℕ → List ℕ → List ℕ → ℕ → Counts → Counts
+all rank head s i t = filings ours rank head (parted (drop i s)) t
 
-all-more : (head s : List ℕ) (i e : ℕ) (t : Counts) → Reached s 61 i e → e < length s → all head s i t ≡ all head s (e + 1) (filing ours head (groups (part s i e)) t)
-all-more head s i e t v h =
-    ap (λ (ps : List (List ℕ)). filings ours head (map (λ (p : List ℕ). groups p) ps) t) (piece-here v h)
-    ∙ filings-more head (groups (part s i e)) (pieces [] (drop (e + 1) s)) t (some-piece (drop (e + 1) s) [])
+all-more : (rank : ℕ) (head s : List ℕ) (i e : ℕ) (t : Counts) → Reached s 61 i e → e < length s → all rank head s i t ≡ all rank head s (e + 1) (filing ours rank head (groups (part s i e)) t)
+all-more rank head s i e t v h =
+    ap (λ (ps : List (List ℕ)). filings ours rank head (map (λ (p : List ℕ). groups p) ps) t) (piece-here v h)
+    ∙ filings-more rank head (groups (part s i e)) (pieces [] (drop (e + 1) s)) t (some-piece (drop (e + 1) s) [])
 
-all-last : (head s : List ℕ) (i e : ℕ) (t : Counts) → Reached s 61 i e → length s ≤ e → all head s i t ≡ tail (groups (part s i e)) t
+all-last : (rank : ℕ) (head s : List ℕ) (i e : ℕ) (t : Counts) → Reached s 61 i e → length s ≤ e → all rank head s i t ≡ tail (groups (part s i e)) t
 unfolding filings
-all-last head s i e t v h = ap (λ (ps : List (List ℕ)). filings ours head (map (λ (p : List ℕ). groups p) ps) t) (piece-last v h)
+all-last rank head s i e t v h = ap (λ (ps : List (List ℕ)). filings ours rank head (map (λ (p : List ℕ). groups p) ps) t) (piece-last v h)
 
 -- the loop: of the reports from `at` on those before i are filed, and the next ends at e
-pub record Filing (head s : List ℕ) (at : ℕ) (old : List ℕ) (i e a r : ℕ) (store : List ℕ) : Type 0 where
+pub record Filing (rank : ℕ) (head s : List ℕ) (at : ℕ) (old : List ℕ) (i e a r : ℕ) (store : List ℕ) : Type 0 where
   pub next : Reached s 61 i e
   pub few : a + r ≤ i
   pub sound : sound store ≡ true
   pub long : length store ≡ length old
-  pub rest : all head s i (record { store = store; accepted = a; refused = r }) ≡ all head s at (atFirst old)
+  pub rest : all rank head s i (record { store = store; accepted = a; refused = r }) ≡ all rank head s at (atFirst old)
 
-pub filing-none : (head s : List ℕ) (at : ℕ) (old : List ℕ) (e : ℕ) → sound old ≡ true → Reached s 61 at e → Filing head s at old at e 0 0 old
-filing-none head s at old e h v = record { next = v; few = omega arith; sound = h; long = refl; rest = refl }
+pub filing-none : (rank : ℕ) (head s : List ℕ) (at : ℕ) (old : List ℕ) (e : ℕ) → sound old ≡ true → Reached s 61 at e → Filing rank head s at old at e 0 0 old
+filing-none rank head s at old e h v = record { next = v; few = omega arith; sound = h; long = refl; rest = refl }
 
 pub one-each : (b : Bool) → cond {A = ℕ} b 1 0 + cond {A = ℕ} b 0 1 ≡ 1
 one-each true = refl
 one-each false = refl
 
-pub filing-more : {head s : List ℕ} {at : ℕ} {old : List ℕ} {i e a r : ℕ} {store : List ℕ} (b : Bool) (x y f : ℕ) (new : List ℕ)
-    → Filing head s at old i e a r store → e < length s → length new ≡ length store → Filed head (groups (part s i e)) store b new
-    → x ≡ cond b 1 0 → y ≡ cond b 0 1 → Reached s 61 (e + 1) f → Filing head s at old (e + 1) f (a + x) (r + y) new
+pub filing-more : {rank : ℕ} {head s : List ℕ} {at : ℕ} {old : List ℕ} {i e a r : ℕ} {store : List ℕ} (b : Bool) (x y f : ℕ) (new : List ℕ)
+    → Filing rank head s at old i e a r store → e < length s → length new ≡ length store → Filed rank head (groups (part s i e)) store b new
+    → x ≡ cond b 1 0 → y ≡ cond b 0 1 → Reached s 61 (e + 1) f → Filing rank head s at old (e + 1) f (a + x) (r + y) new
 unfolding filing
-filing-more {head} {s} {at} {old} {i} {e} {a} {r} {store} b x y f new v h l d p q w =
+filing-more {rank} {head} {s} {at} {old} {i} {e} {a} {r} {store} b x y f new v h l d p q w =
     record {
       next = w;
       few = let z = v .few in let k = v .next .from in omega (arith, one-each b);
       sound = d .sound;
       long = l ∙ v .long;
-      rest = ap (all head s (e + 1)) same ∙ sym (all-more head s i e (record { store = store; accepted = a; refused = r }) (v .next) h) ∙ v .rest;
+      rest = ap (all rank head s (e + 1)) same ∙ sym (all-more rank head s i e (record { store = store; accepted = a; refused = r }) (v .next) h) ∙ v .rest;
     }
   where
-    same : record { store = new; accepted = a + x; refused = r + y } ≡ filing ours head (groups (part s i e)) (record { store = store; accepted = a; refused = r })
+    same : record { store = new; accepted = a + x; refused = r + y } ≡ filing ours rank head (groups (part s i e)) (record { store = store; accepted = a; refused = r })
     same = (λ j. record { store = d .left j; accepted = a + p j; refused = r + q j })
-        ∙ ap (λ (c : Bool). counted c (step (file (rebuilt head (groups (part s i e)))) store .store) (record { store = store; accepted = a; refused = r })) (d .answer)
+        ∙ ap (λ (c : Bool). counted c (step (file (rebuilt head (groups (part s i e))) rank) store .store) (record { store = store; accepted = a; refused = r })) (d .answer)
 
-pub filing-all : {head s : List ℕ} {at : ℕ} {old : List ℕ} {i e a r : ℕ} {store : List ℕ} (b : Bool) (y : ℕ)
-    → Filing head s at old i e a r store → length s ≤ e → b ≡ none (groups (part s i e)) → y ≡ cond b 0 1
-    → Tallied (all head s at (atFirst old)) a (r + y) store
-filing-all {head} {s} {at} {old} {i} {e} {a} {r} {store} b y v h p q =
-    subst (λ (t : Counts). Tallied t a (r + y) store) (sym (all-last head s i e now (v .next) h) ∙ v .rest)
+pub filing-all : {rank : ℕ} {head s : List ℕ} {at : ℕ} {old : List ℕ} {i e a r : ℕ} {store : List ℕ} (b : Bool) (y : ℕ)
+    → Filing rank head s at old i e a r store → length s ≤ e → b ≡ none (groups (part s i e)) → y ≡ cond b 0 1
+    → Tallied (all rank head s at (atFirst old)) a (r + y) store
+filing-all {rank} {head} {s} {at} {old} {i} {e} {a} {r} {store} b y v h p q =
+    subst (λ (t : Counts). Tallied t a (r + y) store) (sym (all-last rank head s i e now (v .next) h) ∙ v .rest)
     (go (none (groups (part s i e))) (q ∙ ap (λ (c : Bool). cond c 0 1) p))
   where
     now : Counts

@@ -8,6 +8,7 @@ use lib.Dec.{leb}
 use lib.ListN.{length, drop}
 use Rattle.store_layout.specs.Form.{Form, ours}
 use Rattle.store_layout.specs.Sound.{sound}
+use Rattle.store_layout.specs.Valid.{isRank}
 use Rattle.rules.specs.Calls.{isAccepted, file}
 use Rattle.rules.specs.Step.{stepIn, step}
 use Rattle.bulletin_text.specs.Pieces.{parted, none}
@@ -52,34 +53,39 @@ abbrev pub atFirst : List ℕ → Counts
 atFirst s = record { store = s; accepted = 0; refused = 0 }
 
 module _ (form : Form) where
-  -- a report filed with the heading, and counted
-  unfoldable pub filing : List ℕ → List (List ℕ) → Counts → Counts
-  filing head gs t =
-      let o = stepIn form (file (rebuilt head gs)) (t .store) in
-      counted (isAccepted (o .answer)) (o .store) t
+  -- S-3: "Bulletins take one rank for all their reports."
+  module _ (rank : ℕ) where
+    -- a report filed with the heading, and counted
+    unfoldable pub filing : List ℕ → List (List ℕ) → Counts → Counts
+    filing head gs t =
+        let o = stepIn form (file (rebuilt head gs) rank) (t .store) in
+        counted (isAccepted (o .answer)) (o .store) t
 
-  -- the reports in order, and last the tail
-  unfoldable pub filings : List ℕ → List (List (List ℕ)) → Counts → Counts
-  filings head [] t = t
-  filings head (gs ∷ []) t = tail gs t
-  filings head (gs ∷ hs ∷ more) t = filings head (hs ∷ more) (filing head gs t)
+    -- the reports in order, and last the tail
+    unfoldable pub filings : List ℕ → List (List (List ℕ)) → Counts → Counts
+    filings head [] t = t
+    filings head (gs ∷ []) t = tail gs t
+    filings head (gs ∷ hs ∷ more) t = filings head (hs ∷ more) (filing head gs t)
 
-  abbrev pub under : Heading → List (List (List ℕ)) → List ℕ → Result
-  under (Faulty n) ps s = unchanged n s
-  under (Timed a b c d e) ps s = told (filings (heading a b c d e) ps (atFirst s))
+    abbrev pub under : Heading → List (List (List ℕ)) → List ℕ → Result
+    under (Faulty n) ps s = unchanged n s
+    under (Timed a b c d e) ps s = told (filings (heading a b c d e) ps (atFirst s))
 
-  -- the heading is the first two groups of the first piece, and the reports stand behind it
-  unfoldable pub headed : List (List (List ℕ)) → List ℕ → Result
-  headed [] s = unchanged 3 s
-  headed (gs ∷ more) s = under (headingIn gs) (drop 2 gs ∷ more) s
+    -- the heading is the first two groups of the first piece, and the reports stand behind it
+    unfoldable pub headed : List (List (List ℕ)) → List ℕ → Result
+    headed [] s = unchanged 3 s
+    headed (gs ∷ more) s = under (headingIn gs) (drop 2 gs ∷ more) s
 
-  -- "At most 16384 bytes"; "Refused whole: 9, then 1 for length 0 or too long, 3 or 4 for the heading"
-  unfoldable pub resultIn : List ℕ → List ℕ → Result
-  resultIn s text =
-      cond (form .sound s) (cond (leb 1 (length text) && leb (length text) 16384) (headed (parted text) s) (unchanged 1 s)) (unchanged 9 s)
+    -- "At most 16384 bytes"; "1 for length 0 or too long, 3 or 4 for the heading"
+    unfoldable pub taken : List ℕ → List ℕ → Result
+    taken s text = cond (leb 1 (length text) && leb (length text) 16384) (headed (parted text) s) (unchanged 1 s)
+
+  -- "Refused whole: 9, then 1 .., 3 or 4"; S-3: 13 for "a rank above 24 .. is tested right after 9 (a bulletin is then refused whole)"
+  unfoldable pub resultIn : List ℕ → List ℕ → ℕ → Result
+  resultIn s text rank = cond (form .sound s) (cond (isRank rank) (taken rank s text) (unchanged 13 s)) (unchanged 9 s)
 
 -- on our bytes
-abbrev pub result : List ℕ → List ℕ → Result
+abbrev pub result : List ℕ → List ℕ → ℕ → Result
 result = resultIn ours
 
 -- what the code's answer says
@@ -91,10 +97,10 @@ pub record Gave (r : Result) (a : BulletinReply) (t : List ℕ) : Type 0 where
   pub answer : answered a ≡ r .answer
   pub left : t ≡ r .store
 
--- a report with these groups was filed in the store s: whether it was accepted, and the bytes t that it left
-pub record Filed (head : List ℕ) (gs : List (List ℕ)) (s : List ℕ) (a : Bool) (t : List ℕ) : Type 0 where
-  pub answer : a ≡ isAccepted (step (file (rebuilt head gs)) s .answer)
-  pub left : t ≡ step (file (rebuilt head gs)) s .store
+-- a report with these groups was filed at a rank in the store s: whether it was accepted, and the bytes t that it left
+pub record Filed (rank : ℕ) (head : List ℕ) (gs : List (List ℕ)) (s : List ℕ) (a : Bool) (t : List ℕ) : Type 0 where
+  pub answer : a ≡ isAccepted (step (file (rebuilt head gs) rank) s .answer)
+  pub left : t ≡ step (file (rebuilt head gs) rank) s .store
   pub sound : sound t ≡ true
 
 -- the counts and the bytes that the reports left
@@ -103,8 +109,9 @@ pub record Tallied (t : Counts) (a r : ℕ) (s : List ℕ) : Type 0 where
   pub refused : r ≡ t .refused
   pub left : s ≡ t .store
 
--- the reports of a text that is not too long stand from `at` on, and the store is sound
-pub record Ready (s text : List ℕ) (at : ℕ) : Type 0 where
+-- the reports of a text that is not too long stand from `at` on, the store is sound, and the rank is one
+pub record Ready (s text : List ℕ) (at rank : ℕ) : Type 0 where
   pub sound : sound s ≡ true
   pub upto : at ≤ length text
   pub short : length text ≤ 16384
+  pub ranked : isRank rank ≡ true

@@ -6,6 +6,7 @@ ghost use lib.ListN.{drop};
 ghost use Rattle.synop_text.specs.Groups.{groups};
 ghost use Rattle.store_layout.specs.Form.{ours, AnyTwoForms};
 ghost use Rattle.store_layout.specs.Sound.{sound};
+ghost use Rattle.store_layout.specs.Valid.{isRank};
 ghost use Rattle.bulletin_text.specs.Pieces.{parted};
 ghost use Rattle.bulletin_text.specs.Rebuilt.{heading};
 ghost use Rattle.bulletin.specs.Forms.{SameBulletins};
@@ -16,6 +17,7 @@ use bulletin_text::is_blank;
 use bulletin_text::squeeze;
 use bulletin_text::start_of;
 use engine_answers::Reply;
+use quality::head::HIGHEST_RANK;
 use text_bytes::find;
 use text_bytes::put;
 
@@ -33,15 +35,15 @@ pub enum BulletinReply {
 
 // ---- the reports
 
-// A report filed in a sound store: whether it was accepted. Of one beyond 512 bytes the buffer has the first 513, which are refused as well.
-fn file_report(store: &mut [u8], a: u8, b: u8, c: u8, d: u8, e: u8, piece: &[u8]) -> bool
-    requires { ⌜ sound (now store) ≡ true ⌝ }
-    ensures { λ r. ⌜ Filed (heading a b c d e) (groups (now (piece .entry))) (now (store .entry)) r (now (store .exit)) ⌝ }
+// A report filed at a rank in a sound store: whether it was accepted. Of one beyond 512 bytes the buffer has the first 513, which are refused as well.
+fn file_report(store: &mut [u8], rank: u8, a: u8, b: u8, c: u8, d: u8, e: u8, piece: &[u8]) -> bool
+    requires { ⌜ (sound (now store) ≡ true) × (isRank rank ≡ true) ⌝ }
+    ensures { λ r. ⌜ Filed rank (heading a b c d e) (groups (now (piece .entry))) (now (store .entry)) r (now (store .exit)) ⌝ }
 {
     let mut buf = begin(a, b, c, d, e);
     let n = squeeze(&mut buf, 10, piece);
     let m = put(&mut buf, n, b'=');
-    match engine_filing::file_in(store, &buf[0..m]) {
+    match engine_filing::file_in(store, &buf[0..m], rank) {
         Reply::Accepted => true,
         Reply::Refused(_) => false,
     }
@@ -72,21 +74,22 @@ fn file_reports(
     store: &mut [u8],
     text: &[u8],
     at: usize,
+    rank: u8,
     a: u8,
     b: u8,
     c: u8,
     d: u8,
     e: u8,
 ) -> Tally
-    requires { ⌜ Ready (now store) (now text) at ⌝ }
-    ensures { λ r. ⌜ Tallied (filings ours (heading a b c d e) (parted (drop at (now (text .entry)))) (atFirst (now (store .entry)))) (r .accepted) (r .refused) (now (store .exit)) ⌝ }
+    requires { ⌜ Ready (now store) (now text) at rank ⌝ }
+    ensures { λ r. ⌜ Tallied (filings ours rank (heading a b c d e) (parted (drop at (now (text .entry)))) (atFirst (now (store .entry)))) (r .accepted) (r .refused) (now (store .exit)) ⌝ }
 {
     let mut i = at;
     let mut end = find(text, b'=', at);
     let mut accepted: u32 = 0;
     let mut refused: u32 = 0;
     while end < text.len() {
-        let ok = file_report(store, a, b, c, d, e, &text[i..end]);
+        let ok = file_report(store, rank, a, b, c, d, e, &text[i..end]);
         accepted += one_if(ok);
         refused += one_unless(ok);
         i = end + 1;
@@ -98,13 +101,18 @@ fn file_reports(
 
 // ---- the call
 
-// A bulletin: refused whole 9, 1, then 3 or 4; otherwise its reports are filed in order and counted. The store is tested once.
-pub fn bulletin(store: &mut [u8], text: &[u8]) -> BulletinReply
-    ensures { λ r. ⌜ Gave (result (now (store .entry)) (now (text .entry))) r (now (store .exit)) ⌝ }
+// A bulletin: refused whole 9, 13 for a rank above 24, 1, then 3 or 4; otherwise its reports are filed in order at that rank and counted. The
+// store is tested once.
+pub fn bulletin(store: &mut [u8], text: &[u8], rank: u32) -> BulletinReply
+    ensures { λ r. ⌜ Gave (result (now (store .entry)) (now (text .entry)) rank) r (now (store .exit)) ⌝ }
 {
     if !store_soundness::sound::is_sound(store) {
         return BulletinReply::Refused(9);
     }
+    if HIGHEST_RANK < rank {
+        return BulletinReply::Refused(13);
+    }
+    let at_rank = rank as u8;
     let fits = (1 <= text.len()) & (text.len() <= 16384);
     if !fits {
         return BulletinReply::Refused(1);
@@ -116,7 +124,7 @@ pub fn bulletin(store: &mut [u8], text: &[u8]) -> BulletinReply
     match heading {
         Heading::Faulty(n) => BulletinReply::Refused(n),
         Heading::Timed(a, b, c, d, e) => {
-            BulletinReply::Counted(file_reports(store, text, at, a, b, c, d, e))
+            BulletinReply::Counted(file_reports(store, text, at, at_rank, a, b, c, d, e))
         }
     }
 }

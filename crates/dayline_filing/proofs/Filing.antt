@@ -25,15 +25,15 @@ use Rattle.dayline_filing.specs.Filing.{Tally, more, filing, filings, Fi
 use Rattle.dayline_filing.proofs.Cutting.{reports-none, rest-none, reports-end, rest-end, reports-on, rest-on, rest-two, reports-two, blank-none, blank-more}
 
 -- ---- what is kept of a report does for the whole
-step-cut : (s t : List ℕ) → step (file (take 513 t)) s ≡ step (file t) s
+step-cut : (s t : List ℕ) → step (file (take 513 t) 0) s ≡ step (file t 0) s
 unfolding stepIn
-step-cut s t = ap (λ (r : Report). cond (sound s) (asked (askFile r) (decode s) s) (unchanged (refused 9) s)) (cut-report t)
+step-cut s t = ap (λ (r : Report). cond (sound s) (asked (askFile 0 r) (decode s) s) (unchanged (refused 9) s)) (cut-report t)
 
 module _ (s kept run : List ℕ) (held : ℕ) (room : Room kept held) (v : Holds kept held run) where
-  step-kept : step (file (take held kept)) s ≡ step (file run) s
-  step-kept = ap (λ (t : List ℕ). step (file t) s) (v .same ∙ ap (λ (k : ℕ). take k run) (room .size)) ∙ step-cut s run
+  step-kept : step (file (take held kept) 0) s ≡ step (file run 0) s
+  step-kept = ap (λ (t : List ℕ). step (file t 0) s) (v .same ∙ ap (λ (k : ℕ). take k run) (room .size)) ∙ step-cut s run
 
-  pub filed : (n : ℕ) (a : Answer) (t : List ℕ) (m : ℕ) → Did (step (file (take held kept)) s) a t → m ≡ cond (isAccepted a) n (more n) → Filed run s n t m
+  pub filed : (n : ℕ) (a : Answer) (t : List ℕ) (m : ℕ) → Did (step (file (take held kept) 0) s) a t → m ≡ cond (isAccepted a) n (more n) → Filed run s n t m
   unfolding filing
   filed n a t m d e =
       ap₂ (λ (x : List ℕ) (y : ℕ). record { store = x; refused = y }) (d .left ∙ ap (λ (o : Outcome). o .store) step-kept)

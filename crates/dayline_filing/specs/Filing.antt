@@ -22,7 +22,7 @@ more n = min (n + 1) 18446744073709551615
 -- a report filed
 unfoldable pub filing : List ℕ → Tally → Tally
 filing report t =
-    let o = step (file report) (t .store) in
+    let o = step (file report 0) (t .store) in
     record { store = o .store; refused = cond (isAccepted (o .answer)) (t .refused) (more (t .refused)) }
 
 -- reports filed in order

@@ -64,7 +64,7 @@ fn finish(store: &mut [u8], kept: &[u8], held: usize, refused: u64) -> u64
     requires { ⌜ Room (now kept) held ⌝ }
     ensures { λ r. ⌜ ((run : List ℕ) → Holds (now (kept .entry)) held run → Filed run (now (store .entry)) refused (now (store .exit)) r) ⌝ }
 {
-    match engine::file(store, &kept[..held]) {
+    match engine::file(store, &kept[..held], 0) {
         Reply::Accepted => refused,
         Reply::Refused(_) => more(refused),
     }

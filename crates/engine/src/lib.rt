@@ -7,6 +7,7 @@ ghost use Rattle.rules.specs.Step.{step};
 use engine_answers::CellReply;
 use engine_answers::DayReply;
 use engine_answers::Reply;
+use quality::head::HIGHEST_RANK;
 use store_soundness::find::Located;
 use store_soundness::find::locate;
 
@@ -27,14 +28,18 @@ pub fn open(
     Reply::Refused(10)
 }
 
-// A report filed: refused 9, then 1 to 8.
-pub fn file(store: &mut [u8], text: &[u8]) -> Reply
-    ensures { λ r. ⌜ Did (step (Calls.file (now (text .entry))) (now (store .entry))) (reply r) (now (store .exit)) ⌝ }
+// A report filed at a rank, 0 for an ordinary one, 1 to 24 for CCA to CCX: refused 9, then 13 for a rank above 24, 1 to 7, 13 for a rank
+// below the slot's, 8.
+pub fn file(store: &mut [u8], text: &[u8], rank: u32) -> Reply
+    ensures { λ r. ⌜ Did (step (Calls.file (now (text .entry)) rank) (now (store .entry))) (reply r) (now (store .exit)) ⌝ }
 {
     if !store_soundness::sound::is_sound(store) {
         return Reply::Refused(9);
     }
-    engine_filing::file_in(store, text)
+    if HIGHEST_RANK < rank {
+        return Reply::Refused(13);
+    }
+    engine_filing::file_in(store, text, rank as u8)
 }
 
 // A station settled: refused 9, 6.

@@ -4,16 +4,17 @@ ghost use mathlib.Core.List.{map};
 ghost use Prim.Native.Nat.{ℕ, _<_};
 ghost use Rattle.calendar.specs.Slots.{slotOf};
 ghost use lib.ListN.{length};
-ghost use Rattle.store_layout.specs.Model.{stationAt};
+ghost use Rattle.store_layout.specs.Model.{Station, stationAt};
 ghost use Rattle.store_layout.specs.Layout.{blockLength, countAt, word, decodeBlock, decode};
 ghost use Rattle.store_layout.specs.Updates.{withSlot};
 ghost use Rattle.synop_codes.specs.Value as codes;
 ghost use Rattle.quality.specs.Coded.{cell};
 ghost use Rattle.synop_contents.specs.Contents.{listed};
-ghost use Rattle.rules.specs.Calls.{named, takeNil, take, file, ask};
+ghost use Rattle.synop.specs.Report.{report};
+ghost use Rattle.rules.specs.Calls.{named, takeNil, take, askFile};
 ghost use Rattle.engine_answers.specs.Good.{Good};
 ghost use Rattle.engine_answers.specs.Replies.{reply, Did};
-ghost use Rattle.rules.specs.Rules.{keeps, rawCell, filedHead, filedCells, fileAt, nilIn, fileIn};
+ghost use Rattle.rules.specs.Rules.{keeps, makes, rawCell, filedHead, filedCells, filed, fileAt, nilIn, fileIn};
 ghost use Rattle.rules.specs.Step.{after, asked};
 use calendar::Slot;
 use engine_answers::Reply;
@@ -62,15 +63,17 @@ fn raw_moisture(m: Moisture) -> OffsetCell
     }
 }
 
-// What filing a report in slot k puts there: the slot's head.
-fn slot_head(k: usize, indicators: Indicators) -> SlotHead
-    ensures { λ r. ⌜ r ≡ filedHead k indicators ⌝ }
+// What filing a report of a rank in slot k puts there: the slot's head.
+fn slot_head(k: usize, rank: u8, indicators: Indicators) -> SlotHead
+    ensures { λ r. ⌜ r ≡ filedHead k rank indicators ⌝ }
 {
     SlotHead {
         filed: 1,
         ir: indicators.rain_indicator,
         tr: indicators.rain_duration,
         dd: indicators.wind_direction,
+        rank: rank,
+        spare: 0,
     }
 }
 
@@ -101,27 +104,59 @@ fn raw_cells(k: usize, indicators: Indicators, v: Values) -> [OffsetCell; 9]
 }
 
 // A slot's head and raw cells replaced.
-fn put_report(block: &mut [u8], k: usize, head: Indicators, values: Values)
+fn put_report(block: &mut [u8], k: usize, rank: u8, head: Indicators, values: Values)
     requires { ⌜ (length (now block) ≡ blockLength) × (k < 9) ⌝ }
-    ensures { λ _. ⌜ decodeBlock (now (block .exit)) ≡ withSlot k (filedHead k head) (filedCells k head (listed values)) (decodeBlock (now (block .entry))) ⌝ }
+    ensures { λ _. ⌜ decodeBlock (now (block .exit)) ≡ withSlot k (filedHead k rank head) (filedCells k head (listed values)) (decodeBlock (now (block .entry))) ⌝ }
 {
-    let h = slot_head(k, head);
+    let h = slot_head(k, rank, head);
     put_slot(block, k, h, raw_cells(k, head, values));
 }
 
-// A report filed in slot k of the station at an index, unless the slot is filed already.
-fn file_at(store: &mut [u8], index: usize, k: usize, head: Indicators, values: Values) -> Reply
+// A report of a rank written to slot k of the station at an index, whatever the slot holds. The station is no longer settled.
+fn put_filed(
+    store: &mut [u8],
+    index: usize,
+    k: usize,
+    rank: u8,
+    head: Indicators,
+    values: Values,
+) -> Reply
     requires { ⌜ Good (now store) × (index < word (now store) countAt) × (k < 9) ⌝ }
-    ensures { λ r. ⌜ Did (after (fileAt k head (listed values) (stationAt (decode (now (store .entry)) .stations) index)) index (decode (now (store .entry))) (now (store .entry))) (reply r) (now (store .exit)) ⌝ }
+    ensures { λ r. ⌜ Did (after (makes (filed k rank head (listed values) (stationAt (decode (now (store .entry)) .stations) index))) index (decode (now (store .entry))) (now (store .entry))) (reply r) (now (store .exit)) ⌝ }
 {
     let a = store_entries::block_start(store, index);
     let b = a + BLOCK_LENGTH;
-    if store_block::block::is_filed(&store[a..b], k) {
-        return Reply::Refused(8);
-    }
-    put_report(&mut store[a..b], k, head, values);
+    put_report(&mut store[a..b], k, rank, head, values);
     store_entries::set_settled(store, index, 0);
     Reply::Accepted
+}
+
+// A report of a rank filed in slot k of the station at an index: a higher rank replaces what the slot holds, a lower one is refused, and so
+// is an equal one where the slot is filed.
+fn file_at(
+    store: &mut [u8],
+    index: usize,
+    k: usize,
+    rank: u8,
+    head: Indicators,
+    values: Values,
+) -> Reply
+    requires { ⌜ Good (now store) × (index < word (now store) countAt) × (k < 9) ⌝ }
+    ensures { λ r. ⌜ Did (after (fileAt k rank head (listed values) (stationAt (decode (now (store .entry)) .stations) index)) index (decode (now (store .entry))) (now (store .entry))) (reply r) (now (store .exit)) ⌝ }
+{
+    let a = store_entries::block_start(store, index);
+    let b = a + BLOCK_LENGTH;
+    let old = store_block::block::head_of(&store[a..b], k);
+    if rank < old.rank {
+        return Reply::Refused(13);
+    }
+    if old.rank < rank {
+        return put_filed(store, index, k, rank, head, values);
+    }
+    if old.filed == 1 {
+        return Reply::Refused(8);
+    }
+    put_filed(store, index, k, rank, head, values)
 }
 
 // The slot that a heading names on the store's day.
@@ -133,9 +168,9 @@ fn slot_in(store: &[u8], h: Identification) -> Slot
     calendar::slot_of(d.year, d.month, d.day, h.day as u32, h.hour as u32)
 }
 
-// A `NIL` is accepted for any slot.
+// A `NIL` is accepted for any slot, whatever its rank and the slot's.
 fn nil_in(slot: Slot) -> Reply
-    ensures { λ r. ⌜ keeps (reply r) ≡ nilIn slot ⌝ }
+    ensures { λ r. ⌜ ((rank : ℕ) (t : Station) → keeps (reply r) ≡ nilIn slot rank t) ⌝ }
 {
     match slot {
         Slot::At(_) => Reply::Accepted,
@@ -143,10 +178,10 @@ fn nil_in(slot: Slot) -> Reply
     }
 }
 
-// A `NIL` of a station: it changes nothing.
+// A `NIL` of a station, at any rank: it changes nothing.
 fn file_nil(store: &[u8], h: Identification) -> Reply
     requires { ⌜ Good (now store) ⌝ }
-    ensures { λ r. ⌜ Did (asked (named (h .station) (takeNil (h .day) (h .hour))) (decode (now (store .entry))) (now (store .entry))) (reply r) (now (store .entry)) ⌝ }
+    ensures { λ r. ⌜ ((rank : ℕ) → Did (asked (named (h .station) (takeNil (h .day) (h .hour) rank)) (decode (now (store .entry))) (now (store .entry))) (reply r) (now (store .entry))) ⌝ }
 {
     match store_soundness::find::find(store, h.station) {
         Located::Unsound => Reply::Refused(6),
@@ -156,40 +191,53 @@ fn file_nil(store: &[u8], h: Identification) -> Reply
 }
 
 // A report for a slot of the station at an index.
-fn file_there(store: &mut [u8], index: usize, slot: Slot, head: Indicators, values: Values) -> Reply
+fn file_there(
+    store: &mut [u8],
+    index: usize,
+    slot: Slot,
+    rank: u8,
+    head: Indicators,
+    values: Values,
+) -> Reply
     requires { ⌜ Good (now store) × (index < word (now store) countAt) ⌝ }
     requires { ⌜ ((k : ℕ) → slot ≡ Slot.At k → k < 9) ⌝ }
-    ensures { λ r. ⌜ Did (after (fileIn slot head (listed values) (stationAt (decode (now (store .entry)) .stations) index)) index (decode (now (store .entry))) (now (store .entry))) (reply r) (now (store .exit)) ⌝ }
+    ensures { λ r. ⌜ Did (after (fileIn slot rank head (listed values) (stationAt (decode (now (store .entry)) .stations) index)) index (decode (now (store .entry))) (now (store .entry))) (reply r) (now (store .exit)) ⌝ }
 {
     match slot {
-        Slot::At(k) => file_at(store, index, k, head, values),
+        Slot::At(k) => file_at(store, index, k, rank, head, values),
         Slot::Nothing => Reply::Refused(7),
     }
 }
 
 // A whole report.
-fn file_whole(store: &mut [u8], h: Identification, head: Indicators, values: Values) -> Reply
+fn file_whole(
+    store: &mut [u8],
+    h: Identification,
+    rank: u8,
+    head: Indicators,
+    values: Values,
+) -> Reply
     requires { ⌜ Good (now store) ⌝ }
-    ensures { λ r. ⌜ Did (asked (named (h .station) (take (h .day) (h .hour) head (listed values))) (decode (now (store .entry))) (now (store .entry))) (reply r) (now (store .exit)) ⌝ }
+    ensures { λ r. ⌜ Did (asked (named (h .station) (take (h .day) (h .hour) rank head (listed values))) (decode (now (store .entry))) (now (store .entry))) (reply r) (now (store .exit)) ⌝ }
 {
     match store_soundness::find::find(store, h.station) {
         Located::Unsound => Reply::Refused(6),
         Located::Absent => Reply::Refused(6),
         Located::At(index) => {
             let slot = slot_in(store, h);
-            file_there(store, index, slot, head, values)
+            file_there(store, index, slot, rank, head, values)
         }
     }
 }
 
-// A report, whatever its text holds.
-pub fn file_in(store: &mut [u8], text: &[u8]) -> Reply
+// A report of a rank, whatever its text holds.
+pub fn file_in(store: &mut [u8], text: &[u8], rank: u8) -> Reply
     requires { ⌜ Good (now store) ⌝ }
-    ensures { λ r. ⌜ Did (asked (ask (file (now (text .entry)))) (decode (now (store .entry))) (now (store .entry))) (reply r) (now (store .exit)) ⌝ }
+    ensures { λ r. ⌜ Did (asked (askFile rank (report (now (text .entry)))) (decode (now (store .entry))) (now (store .entry))) (reply r) (now (store .exit)) ⌝ }
 {
     match synop::read(text) {
         Report::Refused(n) => Reply::Refused(n as u32),
         Report::Nil(h) => file_nil(store, h),
-        Report::Whole(h, head, values) => file_whole(store, h, head, values),
+        Report::Whole(h, head, values) => file_whole(store, h, rank, head, values),
     }
 }

@@ -57,12 +57,13 @@ pub extern "C" fn esfenruk_open(
     number_of(engine::open(store, year, month, day, stations, rows))
 }
 
-// Files a report: 0, or 9, then 1 to 8.
+// Files a report at a rank, 0 for an ordinary one, 1 to 24 for CCA to CCX: 0, or 9, then 13 for a rank above 24, 1 to 7, 13 for a rank below
+// the slot's, 8.
 #[no_mangle]
-pub extern "C" fn esfenruk_file(store: &mut [u8], text: &[u8]) -> u32
-    ensures { λ r. ⌜ Returned (step (Calls.file (now (text .entry))) (now (store .entry))) r (now (store .exit)) ⌝ }
+pub extern "C" fn esfenruk_file(store: &mut [u8], text: &[u8], rank: u32) -> u32
+    ensures { λ r. ⌜ Returned (step (Calls.file (now (text .entry)) rank) (now (store .entry))) r (now (store .exit)) ⌝ }
 {
-    number_of(engine::file(store, text))
+    number_of(engine::file(store, text, rank))
 }
 
 // Settles a station: 0, or 9, 6.
@@ -114,12 +115,18 @@ pub extern "C" fn esfenruk_day(
     }
 }
 
-// Files the reports of a bulletin in order, and how many were accepted and refused into `counts`: 0, or 9, 1, 3, 4 for the whole.
+// Files the reports of a bulletin in order, all at one rank, and how many were accepted and refused into `counts`: 0, or 9, 13 for a rank
+// above 24, 1, 3, 4 for the whole.
 #[no_mangle]
-pub extern "C" fn esfenruk_bulletin(store: &mut [u8], text: &[u8], counts: &mut [u32; 2]) -> u32
-    ensures { λ r. ⌜ Delivered (result (now (store .entry)) (now (text .entry))) (now (counts .entry)) r (now (store .exit)) (now (counts .exit)) ⌝ }
+pub extern "C" fn esfenruk_bulletin(
+    store: &mut [u8],
+    text: &[u8],
+    rank: u32,
+    counts: &mut [u32; 2],
+) -> u32
+    ensures { λ r. ⌜ Delivered (result (now (store .entry)) (now (text .entry)) rank) (now (counts .entry)) r (now (store .exit)) (now (counts .exit)) ⌝ }
 {
-    match bulletin::bulletin(store, text) {
+    match bulletin::bulletin(store, text, rank) {
         BulletinReply::Refused(n) => n,
         BulletinReply::Counted(t) => {
             *counts = [t.accepted, t.refused];

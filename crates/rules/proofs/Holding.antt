@@ -21,7 +21,7 @@ use Rattle.store_layout.proofs.Stores.{decode-encode, entry-in, block-in, lengt
 use Rattle.store_layout.proofs.Blocks.{length-block}
 use Rattle.store_layout.proofs.Models.{with-count, with-same, with-other}
 use Rattle.store_layout.proofs.Indices.{finds}
-use Rattle.rules.specs.Calls.{Call, Answer, accepted, Ask, unnamed, named, ask}
+use Rattle.rules.specs.Calls.{Call, Answer, accepted, Ask, unnamed, named, denied, ask}
 use Rattle.rules.specs.Rules.{Date, Effect, keeps, makes, rule}
 use Rattle.rules.specs.Reaction.{Reaction, dateOf, placed, at}
 use Rattle.rules.specs.Step.{Outcome, outcomeIn, after, asked, step}
@@ -95,6 +95,7 @@ module _ {d : Date} {x : ℕ} {t : Station} {s : List ℕ} (h : HoldsStation d x
           ap (λ (p : Index). outcomeIn ours (at p (λ i. placed (rule (dateOf (h .model)) request (stationAt (h .model .stations) i)) i (h .model))) s)
           (ap (indexIn (numbers (h .model))) (eqb-true y x b) ∙ index-held)
           ∙ ap₂ (λ (b : Date) (u : Station). after (rule b request u) (h .index) (h .model) s) (h .date) (h .station)
+      go (denied y n) b = refl
 
   pub answer-own : (c : Call) → names x c ≡ true → step c s .answer ≡ answerOf (doneBy d (ask c) t)
   answer-own c e = ap (λ (o : Outcome). o .answer) (step-own c e) ∙ after-answer (doneBy d (ask c) t) (h .index) (h .model) s

@@ -35,12 +35,12 @@ sent t = t ∷ humidity 50 ∷ missing ∷ missing ∷ missing ∷ missing ∷ m
 
 abbrev station : Station
 station =
-    filed 0 head (sent (read (pos 0)))
-    (filed 1 head (sent (read (pos 0)))
-    (filed 2 head (sent (read (pos 0)))
-    (filed 3 head (sent missing)
-    (filed 4 head (sent (read (pos 0)))
-    (filed 5 head (sent (read (pos 0))) (filed 6 head (sent (read (pos 0))) (filed 7 head (sent (read (pos 0))) (newStation 40001 0))))))))
+    filed 0 0 head (sent (read (pos 0)))
+    (filed 1 0 head (sent (read (pos 0)))
+    (filed 2 0 head (sent (read (pos 0)))
+    (filed 3 0 head (sent missing)
+    (filed 4 0 head (sent (read (pos 0)))
+    (filed 5 0 head (sent (read (pos 0))) (filed 6 0 head (sent (read (pos 0))) (filed 7 0 head (sent (read (pos 0))) (newStation 40001 0))))))))
 
 abbrev line : DayLine
 line =

@@ -8,7 +8,7 @@ use Rattle.store_layout.specs.Model.{Block, Station, Store, stationAt}
 use Rattle.store_layout.specs.Valid.{ValidBlock, ValidStation, ValidStore}
 use Rattle.store_layout.specs.Updates.{withBlock, withStation}
 use Rattle.store_layout.proofs.Validity.{valid-with-block, valid-with-station}
-use Rattle.rules.specs.Calls.{Call, refused, Request, Ask, unnamed, named, ask}
+use Rattle.rules.specs.Calls.{Call, refused, Request, Ask, unnamed, named, denied, ask}
 use Rattle.rules.specs.Rules.{Date, Effect, keeps, makes, rule}
 
 -- the station u may stand in t's place
@@ -39,6 +39,7 @@ pub record AllLawful : Type 0 where
 abbrev pub doneBy : Date → Ask → Station → Effect
 doneBy d (unnamed n) t = keeps (refused n)
 doneBy d (named y request) t = rule d request t
+doneBy d (denied y n) t = keeps (refused n)
 
 pub kept-by : AllLawful → (c : Call) (d : Date) (t u : Station) → ValidStation t → doneBy d (ask c) t ≡ makes u → Kept t u
 kept-by lawful c d t u v = go (ask c) refl
@@ -46,3 +47,4 @@ kept-by lawful c d t u v = go (ask c) refl
     go : (q : Ask) → ask c ≡ q → doneBy d q t ≡ makes u → Kept t u
     go (unnamed n) e r = let z : _≡_ {A = ℕ} 0 1 = cc in absurd (omega arith)
     go (named y request) e r = lawful .asked c y request e d t u v r
+    go (denied y n) e r = let z : _≡_ {A = ℕ} 0 1 = cc in absurd (omega arith)

@@ -1,4 +1,5 @@
 -- Demand 3 and the proof table, proved: what other stations' calls bring, and when, never shows in a station's records or answers.
+pub mod Naming
 pub mod Compared
 pub mod Answers
 pub mod Kept

@@ -12,7 +12,7 @@ use Rattle.store_layout.specs.Valid.{ValidStore}
 use Rattle.store_layout.specs.Index.{Index, nowhere, index, indexIn, numbers}
 use Rattle.store_layout.specs.Updates.{withStation}
 use Rattle.store_layout.proofs.Indices.{Found, found}
-use Rattle.rules.specs.Calls.{Call, Answer, accepted, Request, Ask, unnamed, named, ask}
+use Rattle.rules.specs.Calls.{Call, Answer, accepted, Request, Ask, unnamed, named, denied, ask}
 use Rattle.rules.specs.Rules.{Effect, keeps, makes, rule}
 use Rattle.rules.specs.Reaction.{Reaction, stays, becomes, dateOf, placed, onStation, at, reaction}
 use Rattle.rules.specs.Runs.{names}
@@ -50,6 +50,7 @@ module _ (lawful : AllLawful) (c : Call) (m : Store) (v : ValidStore m) where
       go : (q : Ask) → ask c ≡ q → Reacts c m (reaction q m)
       go (unnamed n) e = same _
       go (named y request) e = reacts-at y request e (indexIn (numbers m) y) refl
+      go (denied y n) e = same _
 
   pub valid-left : ValidStore (leftOf (reaction (ask c) m) m)
   valid-left = go (reaction (ask c) m) reacts

@@ -4,18 +4,19 @@
 --     all-lawful       all that a call can ask, where every report that passes fits
 -- Assumes nothing.
 use mathlib.Core.Path.{_≡_, refl, sym, subst}
-use mathlib.Core.Bool.{Bool, true, false, cond}
+use mathlib.Core.Bool.{Bool, true, false, cond, _&&_}
 use mathlib.Core.List.{List, map}
 use Prim.Native.Nat.{ℕ, _≤_, _<_}
 use native.Mathlib.Omega.{arith}
-use lib.Dec.{eqb, lit≤}
+use borrow.Author.Tests.{leb-true}
+use lib.Dec.{ltb, eqb, lit≤}
 use lib.ListN.{getD, List·getD-map}
 use Rattle.calendar.specs.Slots.{slotOf}
 use Rattle.calendar.specs.declared.Slot.{Slot}
 use Rattle.calendar.specs.declared.Slot.the-variants.{At, Nothing}
 use Rattle.synop_codes.specs.Value.{Value, missing, read, humidity, Within}
 use Rattle.store_layout.specs.Model.{Station, headOf}
-use Rattle.store_layout.specs.Valid.{ValidStation, isDirection}
+use Rattle.store_layout.specs.Valid.{ValidStation, isDirection, highestRank, isRank}
 use Rattle.store_layout.proofs.Validity.{head-whole, valid-marked, valid-with-slot}
 use Rattle.quality.specs.Cell.{none}
 use Rattle.quality.specs.Valid.{RawCell}
@@ -23,7 +24,7 @@ use Rattle.quality.proofs.Validity.{cell-whole, none-valid, humidity-valid}
 use Rattle.synop.specs.Report.{Report, report}
 use Rattle.synop_contents.specs.declared.Indicators.{Indicators}
 use Rattle.synop_contents.specs.declared.Identification.{Identification}
-use Rattle.rules.specs.Calls.{Call, file, settle, cell, day, Answer, refused, Request, takeNil, take, settling, giveCell, giveDay, Ask, unnamed, named, ask, askFile}
+use Rattle.rules.specs.Calls.{Call, file, settle, cell, day, Answer, refused, Request, takeNil, take, settling, giveCell, giveDay, Ask, unnamed, named, denied, ask, askFile, deny}
 use Rattle.rules.specs.Rules.{Date, keeps, makes, rawCell, filedHead, filedCells, filed, fileAt, nilIn, fileIn, settledStation, rule}
 use Rattle.rules.proofs.Kept.{Kept, kept-block, Lawful, AllLawful}
 use Rattle.rules.proofs.Settling.{kept-settled}
@@ -32,11 +33,11 @@ use Rattle.rules.proofs.Settling.{kept-settled}
 never : {a : Answer} {u : Station} → keeps a ≡ makes u → ⊥
 never e = let z : _≡_ {A = ℕ} 0 1 = cc in omega arith
 
-pub lawful-nil : (yy gg : ℕ) → Lawful (takeNil yy gg)
+pub lawful-nil : (yy gg rank : ℕ) → Lawful (takeNil yy gg rank)
 unfolding rule
-lawful-nil yy gg d t u v e = go (slotOf (d .year) (d .month) (d .day) yy gg) e
+lawful-nil yy gg rank d t u v e = go (slotOf (d .year) (d .month) (d .day) yy gg) e
   where
-    go : (k : Slot) → nilIn k ≡ makes u → Kept t u
+    go : (k : Slot) → nilIn k rank t ≡ makes u → Kept t u
     go Nothing q = absurd (never q)
     go (At k) q = absurd (never q)
 
@@ -74,34 +75,46 @@ valid-raw e (humidity u) w = subst (λ (d : ℕ). RawCell d (rawCell (humidity u
 raw-at : (values : List Value) (e : ℕ) → getD (map rawCell values) e none ≡ rawCell (getD values e missing)
 raw-at values e = List·getD-map rawCell values e missing
 
-module _ (head : Indicators) (values : List Value) (f : Fits head values) where
-  kept-filed : (k : ℕ) (t : Station) → ValidStation t → Kept t (filed k head values t)
+module _ (rank : ℕ) (r : isRank rank ≡ true) (head : Indicators) (values : List Value) (f : Fits head values) where
+  kept-filed : (k : ℕ) (t : Station) → ValidStation t → Kept t (filed k rank head values t)
   unfolding filed
   kept-filed k t v =
       kept-block _ 0 t v
       (valid-marked 0 _
-      (valid-with-slot k (filedHead k head) (filedCells k head values) (t .block) (v .block)
-      (head-whole (filedHead k head) (record { filed = lit≤ tt; ir = f .indicator; tr = f .duration; dd = f .direction }))
+      (valid-with-slot k (filedHead k rank head) (filedCells k head values) (t .block) (v .block)
+      (head-whole (filedHead k rank head)
+      (record {
+        filed = lit≤ tt;
+        ir = f .indicator;
+        tr = f .duration;
+        dd = f .direction;
+        rank = leb-true rank highestRank r;
+        unfiled = refl;
+        spare = refl;
+      }))
       (λ e l. subst (RawCell e) (sym (raw-at values e)) (valid-raw e (getD values e missing) (f .value e l)))))
       (lit≤ tt)
 
-  pub lawful-take : (yy gg : ℕ) → Lawful (take yy gg head values)
+  pub lawful-take : (yy gg : ℕ) → Lawful (take yy gg rank head values)
   unfolding rule fileAt
   lawful-take yy gg d t u v e = at (slotOf (d .year) (d .month) (d .day) yy gg) e
     where
-      free : (k : ℕ) (b : Bool) → cond b (keeps (refused 8)) (makes (filed k head values t)) ≡ makes u → Kept t u
-      free k true q = absurd (never q)
-      free k false q = let r : filed k head values t ≡ u = cc in subst (Kept t) r (kept-filed k t v)
+      free : (k : ℕ) (a b : Bool) → cond a (keeps (refused 13)) (cond b (keeps (refused 8)) (makes (filed k rank head values t))) ≡ makes u → Kept t u
+      free k true b q = absurd (never q)
+      free k false true q = absurd (never q)
+      free k false false q = let e : filed k rank head values t ≡ u = cc in subst (Kept t) e (kept-filed k t v)
 
-      at : (k : Slot) → fileIn k head values t ≡ makes u → Kept t u
+      at : (k : Slot) → fileIn k rank head values t ≡ makes u → Kept t u
       at Nothing q = absurd (never q)
-      at (At k) q = free k (eqb (headOf (t .block) k .filed) 1) q
+      at (At k) q =
+          let old = headOf (t .block) k in
+          free k (ltb rank (old .rank)) (eqb (old .filed) 1 && eqb rank (old .rank)) q
 
 -- ---- all that a call can ask
--- a report that a call asks to take fits
+-- a report that a call asks to take has a rank that may stand in a store, and fits
 abbrev RequestFits : Request → Type 0
-RequestFits (takeNil yy gg) = Unit {0}
-RequestFits (take yy gg head values) = Fits head values
+RequestFits (takeNil yy gg rank) = Unit {0}
+RequestFits (take yy gg rank head values) = (isRank rank ≡ true) × Fits head values
 RequestFits settling = Unit {0}
 RequestFits (giveCell e k) = Unit {0}
 RequestFits giveDay = Unit {0}
@@ -109,21 +122,29 @@ RequestFits giveDay = Unit {0}
 abbrev AskFits : Ask → Type 0
 AskFits (unnamed n) = Unit {0}
 AskFits (named y request) = RequestFits request
+AskFits (denied y n) = Unit {0}
+
+-- what is denied for its rank asks for nothing
+ranked-fits : (q : Ask) (b : Bool) → (b ≡ true → AskFits q) → AskFits (cond b q (deny 13 q))
+ranked-fits q true h = h refl
+ranked-fits (unnamed n) false h = tt
+ranked-fits (named y request) false h = tt
+ranked-fits (denied y n) false h = tt
 
 ask-fits : ReportBounds → (c : Call) → AskFits (ask c)
-ask-fits bounds (file text) = go (report text) refl
+ask-fits bounds (file text rank) = ranked-fits (askFile rank (report text)) (isRank rank) (λ b. go b (report text) refl)
   where
-    go : (r : Report) → report text ≡ r → AskFits (askFile r)
-    go (Report.refused n) e = tt
-    go (Report.nil h) e = tt
-    go (Report.whole h head values) e = bounds .fits text h head values e
+    go : isRank rank ≡ true → (r : Report) → report text ≡ r → AskFits (askFile rank r)
+    go b (Report.refused n) e = tt
+    go b (Report.nil h) e = tt
+    go b (Report.whole h head values) e = (b, bounds .fits text h head values e)
 ask-fits bounds (settle s) = tt
 ask-fits bounds (cell s e k) = tt
 ask-fits bounds (day s) = tt
 
 lawful : (request : Request) → RequestFits request → Lawful request
-lawful (takeNil yy gg) f = lawful-nil yy gg
-lawful (take yy gg head values) f = lawful-take head values f yy gg
+lawful (takeNil yy gg rank) f = lawful-nil yy gg rank
+lawful (take yy gg rank head values) f = lawful-take rank (f .0) head values (f .1) yy gg
 lawful settling f = lawful-settling
 lawful (giveCell e k) f = lawful-cell e k
 lawful giveDay f = lawful-day

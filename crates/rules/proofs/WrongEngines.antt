@@ -151,7 +151,7 @@ upTo (suc n) m = withStation n (settledStation (dateOf m) (stationAt (upTo n m .
 
 settlingAll : Engine
 settlingAll (settle x) s = record { answer = accepted; store = encode (upTo (length (decode s .stations)) (decode s)) }
-settlingAll (file text) s = step (file text) s
+settlingAll (file text rank) s = step (file text rank) s
 settlingAll (cell x e k) s = step (cell x e k) s
 settlingAll (day x) s = step (day x) s
 

@@ -1,17 +1,19 @@
 -- Calls, answers, and what a call asks of whom.
 -- Assumes nothing.
-use mathlib.Core.Bool.{Bool, true, false}
+use mathlib.Core.Bool.{Bool, true, false, cond}
 use mathlib.Core.List.{List}
 use Prim.Native.Nat.{ℕ}
 use Rattle.synop_codes.specs.Value.{Value}
 use Rattle.daily.specs.Line.{DayLine}
 use Rattle.quality.specs.Cell.{Cell}
+use Rattle.store_layout.specs.Valid.{isRank}
 use Rattle.synop.specs.Report.{Report, report}
 use Rattle.synop_contents.specs.declared.Indicators.{Indicators}
 
 -- "Two calls are the same if their kind and their arguments other than the store are, a text byte for byte."
+-- S-3: "Filing takes a rank"; "with the rank as part of each filing call"
 pub data Call : Type 0 where
-  file : List ℕ → Call
+  file : List ℕ → ℕ → Call
   settle : ℕ → Call
   cell : ℕ → ℕ → ℕ → Call
   day : ℕ → Call
@@ -54,29 +56,41 @@ onDay f other (aDay d) = f d
 abbrev pub isAccepted : Answer → Bool
 isAccepted a = ifAccepted true false a
 
--- what is asked of a station: to take a NIL of that day and hour, to take a report with its head and nine values, to settle, to give the
--- checked cell of an element and slot, to give its day line
+-- what is asked of a station: to take a NIL of that day, hour and rank, to take a report of that day, hour and rank with its head and nine
+-- values, to settle, to give the checked cell of an element and slot, to give its day line
 pub data Request : Type 0 where
-  takeNil : ℕ → ℕ → Request
-  take : ℕ → ℕ → Indicators → List Value → Request
+  takeNil : ℕ → ℕ → ℕ → Request
+  take : ℕ → ℕ → ℕ → Indicators → List Value → Request
   settling : Request
   giveCell : ℕ → ℕ → Request
   giveDay : Request
 
--- what a call asks: of nobody, with the number 1 to 5 of a text that does not pass; or of a station
+-- what a call asks: of nobody, with the number of its refusal; of a station; or it names a station and is refused with this number,
+-- whatever the store holds
 pub data Ask : Type 0 where
   unnamed : ℕ → Ask
   named : ℕ → Request → Ask
+  denied : ℕ → ℕ → Ask
 
 -- "A filed text names S exactly if it passes checks 1 to 5 and its IIiii is S."
-abbrev pub askFile : Report → Ask
-askFile (Report.refused n) = unnamed n
-askFile (Report.nil h) = named (h .station) (takeNil (h .day) (h .hour))
-askFile (Report.whole h head values) = named (h .station) (take (h .day) (h .hour) head values)
+abbrev pub askFile : ℕ → Report → Ask
+askFile rank (Report.refused n) = unnamed n
+askFile rank (Report.nil h) = named (h .station) (takeNil (h .day) (h .hour) rank)
+askFile rank (Report.whole h head values) = named (h .station) (take (h .day) (h .hour) rank head values)
+
+-- refused with n before anything else is looked at: whom the call names is the same
+abbrev pub deny : ℕ → Ask → Ask
+deny n (unnamed m) = unnamed n
+deny n (named x request) = denied x n
+deny n (denied x m) = denied x n
+
+-- S-3: 13, "a rank above 24 .. is tested right after 9"; a text names its station at any rank
+abbrev pub ranked : ℕ → Ask → Ask
+ranked rank a = cond (isRank rank) a (deny 13 a)
 
 -- "Settle, cell and day name theirs."
 abbrev pub ask : Call → Ask
-ask (file text) = askFile (report text)
+ask (file text rank) = ranked rank (askFile rank (report text))
 ask (settle s) = named s settling
 ask (cell s e k) = named s (giveCell e k)
 ask (day s) = named s giveDay

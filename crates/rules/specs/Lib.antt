@@ -5,6 +5,7 @@ pub mod Rules
 pub mod Reaction
 pub mod Step
 pub mod Runs
+pub mod Naming
 pub mod Refusals
 pub mod Forms
 pub mod Isolation

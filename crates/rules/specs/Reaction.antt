@@ -1,11 +1,12 @@
 -- What a call does to a store, on the model: no byte plays a part.
--- "File tests 9, then 1 to 8 in order, ..; settle 9, 6; cell 9, 6, 12, 11; day 9, 6, 11": all but 9.
+-- "File tests 9, then 1 to 8 in order, ..; settle 9, 6; cell 9, 6, 12, 11; day 9, 6, 11", S-3: 13 "right after 9" and "just before 8": all
+-- but 9.
 -- Assumes nothing.
 use Prim.Native.Nat.{ℕ}
 use Rattle.store_layout.specs.Model.{Store, stationAt}
 use Rattle.store_layout.specs.Index.{Index, nowhere, index, indexIn, numbers}
 use Rattle.store_layout.specs.Updates.{withStation}
-use Rattle.rules.specs.Calls.{Answer, refused, Request, Ask, unnamed, named}
+use Rattle.rules.specs.Calls.{Answer, refused, Request, Ask, unnamed, named, denied}
 use Rattle.rules.specs.Rules.{Date, Effect, keeps, makes, rule}
 
 -- the store stays as it is, and this is the answer; or it becomes this one, and the call is accepted
@@ -30,7 +31,8 @@ abbrev pub at : Index → (ℕ → Reaction) → Reaction
 at nowhere f = stays (refused 6)
 at (index i) f = f i
 
--- a text that names nobody is refused with its number 1 to 5
+-- a text that names nobody is refused with its number; so is what is denied, before the station is looked for
 abbrev pub reaction : Ask → Store → Reaction
 reaction (unnamed n) m = stays (refused n)
 reaction (named x request) m = at (indexIn (numbers m) x) (onStation request m)
+reaction (denied x n) m = stays (refused n)

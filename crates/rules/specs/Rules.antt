@@ -4,7 +4,7 @@
 use mathlib.Core.Bool.{Bool, cond, _&&_}
 use mathlib.Core.List.{List, map}
 use Prim.Native.Nat.{ℕ}
-use lib.Dec.{leb, eqb}
+use lib.Dec.{leb, ltb, eqb}
 use lib.IntN.{pos}
 use Rattle.calendar.specs.Slots.{slotOf}
 use Rattle.calendar.specs.declared.Slot.{Slot}
@@ -39,28 +39,40 @@ rawCell (read v) = record { state = 1; flag = 0; value = v }
 rawCell (humidity u) = record { state = 4; flag = 0; value = pos u }
 
 -- what filing a report in slot k puts there, its head and its nine raw cells: the same in every slot
-abbrev pub filedHead : ℕ → Indicators → SlotHead
-filedHead k h = record { filed = 1; ir = h .«rain_indicator»; tr = h .«rain_duration»; dd = h .«wind_direction» }
+abbrev pub filedHead : ℕ → ℕ → Indicators → SlotHead
+filedHead k rank h =
+    record {
+      filed = 1;
+      ir = h .«rain_indicator»;
+      tr = h .«rain_duration»;
+      dd = h .«wind_direction»;
+      rank = rank;
+      spare = 0;
+    }
 
 abbrev pub filedCells : ℕ → Indicators → List Value → List Cell
 filedCells k h values = map rawCell values
 
 -- "Any other accepted report replaces the slot's head and raw cells and clears settled."
-unfoldable pub filed : ℕ → Indicators → List Value → Station → Station
-filed k head values t = withBlock (withSlot k (filedHead k head) (filedCells k head values) (t .block)) 0 t
+unfoldable pub filed : ℕ → ℕ → Indicators → List Value → Station → Station
+filed k rank head values t = withBlock (withSlot k (filedHead k rank head) (filedCells k head values) (t .block)) 0 t
 
--- "slot filed already (not for NIL)" is 8
-unfoldable pub fileAt : ℕ → Indicators → List Value → Station → Effect
-fileAt k head values t = cond (eqb (headOf (t .block) k .filed) 1) (keeps (refused 8)) (makes (filed k head values t))
+-- "slot filed already (not for NIL)" is 8. S-3: "A higher rank replaces the whole slot .. An equal rank is "filed already" as before"; 13 is
+-- "a rank .. below the slot's", tested "just before 8"
+unfoldable pub fileAt : ℕ → ℕ → Indicators → List Value → Station → Effect
+fileAt k rank head values t =
+    let old = headOf (t .block) k in
+    cond (ltb rank (old .rank)) (keeps (refused 13))
+    (cond (eqb (old .filed) 1 && eqb rank (old .rank)) (keeps (refused 8)) (makes (filed k rank head values t)))
 
--- "no such slot" is 7; "NIL is accepted and changes nothing"
-abbrev pub nilIn : Slot → Effect
-nilIn Nothing = keeps (refused 7)
-nilIn (At k) = keeps accepted
+-- "no such slot" is 7; "NIL is accepted and changes nothing"; S-3: "at any rank up to 24 and is not compared with the slot's"
+abbrev pub nilIn : Slot → ℕ → Station → Effect
+nilIn Nothing rank t = keeps (refused 7)
+nilIn (At k) rank t = keeps accepted
 
-abbrev pub fileIn : Slot → Indicators → List Value → Station → Effect
-fileIn Nothing head values t = keeps (refused 7)
-fileIn (At k) head values t = fileAt k head values t
+abbrev pub fileIn : Slot → ℕ → Indicators → List Value → Station → Effect
+fileIn Nothing rank head values t = keeps (refused 7)
+fileIn (At k) rank head values t = fileAt k rank head values t
 
 -- each slot's dd
 abbrev pub directions : Block → List ℕ
@@ -108,8 +120,8 @@ unfoldable pub dayOf : Station → Answer
 dayOf t = cond (eqb (t .settled) 1) (aDay (dayLine (t .block .heads) (t .block .checked))) (refused 11)
 
 unfoldable pub rule : Date → Request → Station → Effect
-rule d (takeNil yy gg) t = nilIn (slotOf (d .year) (d .month) (d .day) yy gg)
-rule d (take yy gg head values) t = fileIn (slotOf (d .year) (d .month) (d .day) yy gg) head values t
+rule d (takeNil yy gg rank) t = nilIn (slotOf (d .year) (d .month) (d .day) yy gg) rank t
+rule d (take yy gg rank head values) t = fileIn (slotOf (d .year) (d .month) (d .day) yy gg) rank head values t
 rule d settling t = makes (settledStation d t)
 rule d (giveCell e k) t = keeps (cellOf e k t)
 rule d giveDay t = keeps (dayOf t)

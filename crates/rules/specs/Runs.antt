@@ -8,7 +8,7 @@ use lib.Dec.{eqb}
 use lib.ListN.{length, take, drop}
 use Rattle.store_layout.specs.Layout.{decode, entryAt, entryLength, blockAt, blockLength}
 use Rattle.store_layout.specs.Index.{Index, nowhere, index, indexIn, numbers}
-use Rattle.rules.specs.Calls.{Call, Answer, Ask, unnamed, named, ask}
+use Rattle.rules.specs.Calls.{Call, Answer, Ask, unnamed, named, denied, ask}
 use Rattle.rules.specs.Step.{Outcome}
 
 -- an engine: what it answers to a call on the bytes of a store, and the bytes that it leaves. Ours is `step`
@@ -34,6 +34,7 @@ module _ (engine : Engine) where
 abbrev pub asks : Ask → ℕ → Bool
 asks (unnamed n) x = false
 asks (named y request) x = eqb y x
+asks (denied y n) x = eqb y x
 
 abbrev pub names : ℕ → Call → Bool
 names x c = asks (ask c) x

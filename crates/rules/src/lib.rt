@@ -1,9 +1,10 @@
-// The rules of the calls as definitions (specs/), and proved of them (proofs/) demand 3, that a refusal changes no byte, that the byte form
-// of a store does not show, and the proof table. There is no code here but functions whose contracts are the theorems, so that the check
-// fails where a theorem is gone.
+// The rules of the calls as definitions (specs/), and proved of them (proofs/) demand 3, whom a text names, that a refusal changes no byte,
+// that the byte form of a store does not show, and the proof table. There is no code here but functions whose contracts are the theorems, so
+// that the check fails where a theorem is gone.
 ghost use Rattle.store_layout.specs.Form.{AnyTwoForms};
 ghost use Rattle.rules.specs.Forms.{SameCalls};
 ghost use Rattle.rules.specs.Isolation.{Isolated};
+ghost use Rattle.rules.specs.Naming.{NamedByText};
 ghost use Rattle.rules.specs.ProofTable.{ProofTable};
 ghost use Rattle.rules.specs.Refusals.{RefusalsKeep};
 ghost use Rattle.rules.specs.Step.{step};
@@ -11,6 +12,11 @@ ghost use Rattle.rules.specs.Step.{step};
 // What other stations' calls bring, and when, never shows in a station's records or answers.
 pub fn isolated()
     ensures { λ _. ⌜ Isolated step ⌝ }
+{}
+
+// Whom a filed text names, at any rank.
+pub fn named_by_text()
+    ensures { λ _. ⌜ NamedByText ⌝ }
 {}
 
 // A refusal changes no byte.

@@ -2,7 +2,6 @@
 ghost use mathlib.Core.Path.{_≡_};
 ghost use mathlib.Core.List.{map};
 ghost use Prim.Native.Nat.{_+_, _<_, _≤_};
-ghost use lib.Dec.{eqb};
 ghost use lib.ListN.{length};
 ghost use Rattle.quality.specs.Cell.{slot};
 ghost use Rattle.quality.specs.Coded.{cell, cells, sheet};
@@ -126,12 +125,12 @@ pub fn directions(block: &[u8]) -> [u8; 9]
     r
 }
 
-// Whether slot k is filed.
-pub fn is_filed(block: &[u8], k: usize) -> bool
+// The head of slot k.
+pub fn head_of(block: &[u8], k: usize) -> SlotHead
     requires { ⌜ (length (now block) ≡ blockLength) × (k < 9) ⌝ }
-    ensures { λ r. ⌜ r ≡ eqb (headOf (decodeBlock (now (block .entry))) k .filed) 1 ⌝ }
+    ensures { λ r. ⌜ r ≡ headOf (decodeBlock (now (block .entry))) k ⌝ }
 {
-    head_at(block, HEAD_LENGTH * k).filed == 1
+    head_at(block, HEAD_LENGTH * k)
 }
 
 // Another cell of an element at slot k.

@@ -5,6 +5,7 @@ ghost use lib.Dec.{ltb};
 ghost use Rattle.quality.specs.Valid.{isCell};
 ghost use Rattle.store_layout.specs.Layout.{signed};
 ghost use Rattle.store_layout.specs.Valid.{isEntry, isHead};
+use quality::head::HIGHEST_RANK;
 use quality::head::SlotHead;
 
 // D's number among the elements.
@@ -22,7 +23,9 @@ pub fn is_head(h: SlotHead) -> bool
     if 9 < h.tr {
         return false;
     }
-    (h.dd <= 36) | (h.dd == 99) | (h.dd == 100)
+    let direction = (h.dd <= 36) | (h.dd == 99) | (h.dd == 100);
+    let free = (h.filed == 1) | (h.rank == 0);
+    direction & (h.rank as u32 <= HIGHEST_RANK) & free & (h.spare == 0)
 }
 
 // A cell of an element, its value in two's complement, with the largest state but a humidity's, and the largest flag, that may stand

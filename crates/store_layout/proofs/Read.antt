@@ -13,7 +13,7 @@ use lib.ListN.{length, take, drop}
 use Rattle.laws.specs.Table.{table}
 use Rattle.quality.specs.Cell.{Cell}
 use Rattle.quality.specs.declared.head.SlotHead.{SlotHead}
-use Rattle.store_layout.specs.Layout.{byte, word, long, wordBytes, longBytes, signed, unsigned, headLength, cellLength, decodeHead, encodeHead, decodeCell, encodeCell}
+use Rattle.store_layout.specs.Layout.{byte, word, long, wordBytes, longBytes, signed, unsigned, headLength, irIn, trIn, ddIn, rankIn, spareIn, cellLength, flagIn, decodeHead, encodeHead, decodeCell, encodeCell}
 use Rattle.store_layout.specs.Framed.{Bytes}
 use Rattle.store_layout.proofs.Numbers.{bytes-word, bytes-long, word-below, signed-unsigned, unsigned-signed, word-bytes}
 use Rattle.store_layout.proofs.Parts.{Same, part-table}
@@ -46,15 +46,17 @@ module _ {s t : List ℕ} {i j : ℕ} where
       λ d.
       record {
         filed = first h (omega arith) d;
-        ir = h .each 1 (omega arith) d;
-        tr = h .each 2 (omega arith) d;
-        dd = h .each 3 (omega arith) d;
+        ir = h .each irIn (omega arith) d;
+        tr = h .each trIn (omega arith) d;
+        dd = h .each ddIn (omega arith) d;
+        rank = h .each rankIn (omega arith) d;
+        spare = h .each spareIn (omega arith) d;
       }
 
   pub cell-same : Same cellLength s i t j → decodeCell s i ≡ decodeCell t j
   unfolding decodeCell
   cell-same h =
-      λ d. record { state = first h (omega arith) d; flag = h .each 1 (omega arith) d; value = signed (word-after h d) }
+      λ d. record { state = first h (omega arith) d; flag = h .each flagIn (omega arith) d; value = signed (word-after h d) }
 
 -- ---- written again, it gives the stretch back
 module _ (s : List ℕ) (b : Bytes s) (i : ℕ) where
@@ -75,8 +77,8 @@ module _ (s : List ℕ) (b : Bytes s) (i : ℕ) where
       ∙ sym (four h)
 
   pub head-part : i + headLength ≤ length s → encodeHead (decodeHead s i) ≡ take headLength (drop i s)
-  unfolding decodeHead encodeHead
-  head-part h = sym (rw (after i) at (four h))
+  unfolding decodeHead encodeHead table
+  head-part h = sym (simp add-zero at (part-table headLength i s h))
 
   pub cell-part : i + cellLength ≤ length s → encodeCell (decodeCell s i) ≡ take cellLength (drop i s)
   unfolding decodeCell encodeCell

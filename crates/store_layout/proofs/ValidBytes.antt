@@ -45,7 +45,9 @@ bytes-of-head h v =
     let p = head-parts h v in
     bytes-more (omega (arith, p .filed))
     (bytes-more (omega (arith, p .ir))
-    (bytes-more (omega (arith, p .tr)) (bytes-more (omega (arith, direction-most (h .dd) (p .dd))) bytes-none)))
+    (bytes-more (omega (arith, p .tr))
+    (bytes-more (omega (arith, direction-most (h .dd) (p .dd)))
+    (bytes-more (omega (arith, p .rank)) (bytes-more (omega (arith, p .spare)) bytes-none)))))
 
 pub bytes-of-cell : {e : ℕ} (c : Cell) → ValidCell e c → Bytes (encodeCell c)
 unfolding encodeCell

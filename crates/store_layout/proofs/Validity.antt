@@ -8,13 +8,13 @@
 --     valid-with-station     a station of a store replaced by one of the same number
 -- Assumes nothing.
 use mathlib.Core.Path.{_≡_, refl, sym, _∙_, ap, subst}
-use mathlib.Core.Bool.{true}
+use mathlib.Core.Bool.{true, _||_}
 use mathlib.Core.List.{List, []}
 use Prim.Native.Nat.{ℕ, suc, _<_, _≤_}
 use native.Mathlib.Decide.{ℕ-discrete}
 use native.Mathlib.Omega.{arith}
-use borrow.Author.Tests.{leb-true, le-leb}
-use lib.Dec.{lit≤}
+use borrow.Author.Tests.{leb-true, le-leb, eqb-true}
+use lib.Dec.{lit≤, eqb}
 use lib.ListN.{length, getD, set, length-set}
 use Rattle.laws.specs.Table.{table}
 use Rattle.laws.proofs.Bools.{both}
@@ -25,7 +25,7 @@ use Rattle.quality.specs.Valid.{RawCell, SheetWithin, ValidSheet}
 use Rattle.quality.proofs.Validity.{none-valid, column-valid, put-valid, sheet-valid}
 use Rattle.store_layout.specs.Model.{Block, Station, Store, unfiled, emptySheet, emptyBlock, emptyStation, headOf, stationAt}
 use Rattle.quality.specs.declared.head.SlotHead.{SlotHead}
-use Rattle.store_layout.specs.Valid.{isDirection, isHead, isEntry, ValidHead, ValidBlock, ValidStation, ValidStore}
+use Rattle.store_layout.specs.Valid.{isDirection, highestRank, isHead, isEntry, ValidHead, ValidBlock, ValidStation, ValidStore}
 use Rattle.store_layout.specs.Updates.{withSlot, withChecked, withBlock, withStation}
 use Rattle.store_layout.proofs.Models.{with-count, with-same, with-other}
 
@@ -35,6 +35,9 @@ pub record HeadParts (h : SlotHead) : Type 0 where
   pub ir : h .ir ≤ 5
   pub tr : h .tr ≤ 9
   pub dd : isDirection (h .dd) ≡ true
+  pub rank : h .rank ≤ highestRank
+  pub unfiled : (eqb (h .filed) 1 || eqb (h .rank) 0) ≡ true
+  pub spare : h .spare ≡ 0
 
 pub head-parts : (h : SlotHead) → ValidHead h → HeadParts h
 unfolding isHead
@@ -42,11 +45,23 @@ head-parts h v =
     let p = both v in
     let q = both (p .0) in
     let r = both (q .0) in
-    record { filed = leb-true _ _ (r .0); ir = leb-true _ _ (r .1); tr = leb-true _ _ (q .1); dd = p .1 }
+    let u = both (r .0) in
+    let w = both (u .0) in
+    let x = both (w .0) in
+    record {
+      filed = leb-true _ _ (x .0);
+      ir = leb-true _ _ (x .1);
+      tr = leb-true _ _ (w .1);
+      dd = u .1;
+      rank = leb-true _ _ (r .1);
+      unfiled = q .1;
+      spare = eqb-true _ _ (p .1);
+    }
 
 pub head-whole : (h : SlotHead) → HeadParts h → ValidHead h
 unfolding isHead
-head-whole h p = rw (le-leb _ _ (p .filed), le-leb _ _ (p .ir), le-leb _ _ (p .tr)) (p .dd)
+head-whole h p =
+    rw (le-leb _ _ (p .filed), le-leb _ _ (p .ir), le-leb _ _ (p .tr), p .dd, le-leb _ _ (p .rank), p .unfiled, p .spare) refl
 
 -- ---- an entry's test, taken apart and put together
 pub record EntryParts (number row settled : ℕ) : Type 0 where
@@ -84,7 +99,7 @@ pub valid-empty : (settled : ℕ) → ValidBlock settled emptyBlock
 valid-empty settled =
     record {
       nine = length-table 9 (λ k. unfiled);
-      heads = λ k l. subst ValidHead (sym (head-empty k l)) (head-whole unfiled (record { filed = lit≤ tt; ir = lit≤ tt; tr = lit≤ tt; dd = refl }));
+      heads = λ k l. subst ValidHead (sym (head-empty k l)) (head-whole unfiled (record { filed = lit≤ tt; ir = lit≤ tt; tr = lit≤ tt; dd = refl; rank = lit≤ tt; unfiled = refl; spare = refl }));
       raw = sheet-empty 1 0;
       checked = sheet-empty 3 4;
     }

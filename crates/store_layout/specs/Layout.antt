@@ -1,5 +1,5 @@
--- The byte layout: "A lent buffer of 16 + 692n bytes for n stations." This file alone knows where a thing lies; rules and calls use
--- `encode`, `decode` and the named positions.
+-- The byte layout: "A lent buffer of 16 + 692n bytes for n stations."; S-3: "a block has 702 bytes and a store 16 + 710n". This file alone
+-- knows where a thing lies; rules and calls use `encode`, `decode` and the named positions.
 -- Assumes nothing.
 use mathlib.Core.Bool.{cond}
 use mathlib.Core.List.{List, [], _∷_, _++_}
@@ -14,7 +14,8 @@ use Rattle.store_layout.specs.Model.{Block, Station, Store, headOf, stat
 use Rattle.quality.specs.declared.head.SlotHead.{SlotHead}
 
 -- ---- positions
--- "Header, eight 16-bit numbers: n; offset of the station list (16); offset of the blocks (16 + 8n); block length (684); year; month; day; 0."
+-- "Header, eight 16-bit numbers: n; offset of the station list (16); offset of the blocks (16 + 8n); block length (684); year; month; day;
+-- 0."; S-3: "a block has 702 bytes"
 abbrev pub countAt : ℕ
 countAt = 0
 
@@ -45,8 +46,48 @@ headerLength = 16
 abbrev pub entryLength : ℕ
 entryLength = 8
 
+-- in a block: "nine slot heads of 4 bytes .., then 81 raw and 81 checked cells"; S-3: "The slot head grows by a rank byte .. and a zero byte".
+-- In a head, after filed, iR, tR, dd, the rank and the zero byte
+abbrev pub headLength : ℕ
+headLength = 6
+
+abbrev pub irIn : ℕ
+irIn = 1
+
+abbrev pub trIn : ℕ
+trIn = 2
+
+abbrev pub ddIn : ℕ
+ddIn = 3
+
+abbrev pub rankIn : ℕ
+rankIn = 4
+
+abbrev pub spareIn : ℕ
+spareIn = 5
+
+-- in a cell, after its state, its flag and value
+abbrev pub cellLength : ℕ
+cellLength = 4
+
+abbrev pub flagIn : ℕ
+flagIn = 1
+
+abbrev pub valueIn : ℕ
+valueIn = 2
+
+abbrev pub sheetLength : ℕ
+sheetLength = cellLength * 81
+
+-- where the raw cells begin, and the checked ones, and where a block ends
+abbrev pub rawFrom : ℕ
+rawFrom = headLength * 9
+
+abbrev pub checkedFrom : ℕ
+checkedFrom = rawFrom + sheetLength
+
 abbrev pub blockLength : ℕ
-blockLength = 684
+blockLength = checkedFrom + sheetLength
 
 -- the entry of the station at index i; in it its number, climate row and settled
 abbrev pub entryAt : ℕ → ℕ
@@ -64,23 +105,6 @@ blockAt n i = headerLength + entryLength * n + blockLength * i
 
 abbrev pub storeLength : ℕ → ℕ
 storeLength n = blockAt n n
-
--- in a block: "nine slot heads of 4 bytes .., then 81 raw and 81 checked cells"
-abbrev pub headLength : ℕ
-headLength = 4
-
-abbrev pub cellLength : ℕ
-cellLength = 4
-
-abbrev pub sheetLength : ℕ
-sheetLength = cellLength * 81
-
--- where the raw cells begin, and the checked ones
-abbrev pub rawFrom : ℕ
-rawFrom = headLength * 9
-
-abbrev pub checkedFrom : ℕ
-checkedFrom = rawFrom + sheetLength
 
 -- "slot by slot, elements in the order": which cell of its sheet that of element e at slot k is; the element and the slot of the j-th
 abbrev pub cellIndex : ℕ → ℕ → ℕ
@@ -132,14 +156,22 @@ pieces (suc n) f = f zero ++ pieces n (λ k. f (suc k))
 
 -- ---- a slot head, a cell, a block
 unfoldable pub decodeHead : List ℕ → ℕ → SlotHead
-decodeHead s at = record { filed = byte s at; ir = byte s (at + 1); tr = byte s (at + 2); dd = byte s (at + 3) }
+decodeHead s at =
+    record {
+      filed = byte s at;
+      ir = byte s (at + irIn);
+      tr = byte s (at + trIn);
+      dd = byte s (at + ddIn);
+      rank = byte s (at + rankIn);
+      spare = byte s (at + spareIn);
+    }
 
 unfoldable pub encodeHead : SlotHead → List ℕ
-encodeHead h = h .filed ∷ h .ir ∷ h .tr ∷ h .dd ∷ []
+encodeHead h = h .filed ∷ h .ir ∷ h .tr ∷ h .dd ∷ h .rank ∷ h .spare ∷ []
 
 -- "A cell: state and flag (a byte each), value (16 bits, signed ..)."
 unfoldable pub decodeCell : List ℕ → ℕ → Cell
-decodeCell s at = record { state = byte s at; flag = byte s (at + 1); value = signed (word s (at + 2)) }
+decodeCell s at = record { state = byte s at; flag = byte s (at + flagIn); value = signed (word s (at + valueIn)) }
 
 unfoldable pub encodeCell : Cell → List ℕ
 encodeCell c = c .state ∷ c .flag ∷ wordBytes (unsigned (c .value))

@@ -14,9 +14,21 @@ use Rattle.quality.specs.declared.head.SlotHead.{SlotHead}
 abbrev pub isDirection : ℕ → Bool
 isDirection dd = leb dd 36 || eqb dd 99 || eqb dd 100
 
--- "nine slot heads of 4 bytes (filed 0 or 1; iR 0 to 4, else 5; tR 0 to 9; dd 0 to 36 or 99, else 100)"
+-- S-3: "0 for an ordinary report, 1 to 24 for A to X"
+abbrev pub highestRank : ℕ
+highestRank = 24
+
+abbrev pub isRank : ℕ → Bool
+isRank rank = leb rank highestRank
+
+-- "nine slot heads .. (filed 0 or 1; iR 0 to 4, else 5; tR 0 to 9; dd 0 to 36 or 99, else 100)"; S-3: "a rank byte (0 to 24, 0 while
+-- unfiled) and a zero byte"
 unfoldable pub isHead : SlotHead → Bool
-isHead h = leb (h .filed) 1 && leb (h .ir) 5 && leb (h .tr) 9 && isDirection (h .dd)
+isHead h =
+    leb (h .filed) 1 && leb (h .ir) 5 && leb (h .tr) 9 && isDirection (h .dd)
+    && isRank (h .rank)
+    && (eqb (h .filed) 1 || eqb (h .rank) 0)
+    && eqb (h .spare) 0
 
 abbrev pub ValidHead : SlotHead → Type 0
 ValidHead h = isHead h ≡ true

@@ -33,8 +33,8 @@ pub const ROW_IN: usize = 4;
 
 pub const SETTLED_IN: usize = 6;
 
-// A slot head, and in it filed, iR, tR and dd.
-pub const HEAD_LENGTH: usize = 4;
+// A slot head, and in it filed, iR, tR, dd, the rank and the zero byte.
+pub const HEAD_LENGTH: usize = 6;
 
 pub const FILED_IN: usize = 0;
 
@@ -43,6 +43,10 @@ pub const IR_IN: usize = 1;
 pub const TR_IN: usize = 2;
 
 pub const DD_IN: usize = 3;
+
+pub const RANK_IN: usize = 4;
+
+pub const SPARE_IN: usize = 5;
 
 // A cell, and in it its state, flag and value.
 pub const CELL_LENGTH: usize = 4;

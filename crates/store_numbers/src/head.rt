@@ -7,6 +7,8 @@ ghost use Rattle.store_layout.specs.Layout.{headLength, decodeHead, encodeHead}
 ghost use Rattle.store_layout.specs.Model as model;
 use crate::at::DD_IN;
 use crate::at::IR_IN;
+use crate::at::RANK_IN;
+use crate::at::SPARE_IN;
 use crate::at::TR_IN;
 use crate::write::put_four;
 use quality::head::SlotHead;
@@ -21,6 +23,8 @@ pub fn head_at(store: &[u8], at: usize) -> SlotHead
         ir: store[at + IR_IN],
         tr: store[at + TR_IN],
         dd: store[at + DD_IN],
+        rank: store[at + RANK_IN],
+        spare: store[at + SPARE_IN],
     }
 }
 
@@ -30,6 +34,8 @@ pub fn put_head(store: &mut [u8], at: usize, h: SlotHead)
     ensures { λ _. ⌜ now (store .exit) ≡ sets (now (store .entry)) at (encodeHead h) ⌝ }
 {
     put_four(store, at, h.filed, h.ir, h.tr, h.dd);
+    store[at + RANK_IN] = h.rank;
+    store[at + SPARE_IN] = h.spare;
 }
 
 // The head of a slot that no report was filed in.
@@ -41,5 +47,7 @@ pub fn unfiled() -> SlotHead
         ir: 5,
         tr: 0,
         dd: 100,
+        rank: 0,
+        spare: 0,
     }
 }

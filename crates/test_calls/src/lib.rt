@@ -32,8 +32,9 @@ fn open(store: &mut [u8], l: &[u8]) {
 }
 
 fn file(store: &mut [u8], l: &[u8]) {
-    let from = words::start(l, 1);
-    said(engine::file(store, &l[from..]));
+    let rank = number_of(l, 1);
+    let from = words::start(l, 2);
+    said(engine::file(store, &l[from..], rank));
 }
 
 fn cell(store: &[u8], station: u32, element: u32, slot: u32) {

@@ -2,7 +2,7 @@
 // and with what the call did to the buffer, of which a copy is kept and compared byte by byte. A line is words with one space between them:
 //
 //     open 2024 4 11 40001 0 40002 1   the date; for each station its number and row (the last row may be left out)
-//     file TEXT                        all that follows the space
+//     file 0 TEXT                      the rank; all that follows the second space
 //     settle 40001
 //     cell 40001 0 0                   station, element, slot
 //     element 40001 0                  the nine cells of an element

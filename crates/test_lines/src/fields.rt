@@ -4,7 +4,7 @@
 //
 //     header                      n list blocks length year month day zero
 //     entry STATION               number row settled
-//     head STATION SLOT           filed iR tR dd
+//     head STATION SLOT           filed iR tR dd rank spare
 //     raw STATION ELEMENT SLOT    state flag value
 //     checked STATION ELEMENT SLOT
 ghost use mathlib.Core.Path.{_≡_};
@@ -26,9 +26,11 @@ use store_numbers::at::IR_IN;
 use store_numbers::at::LIST_OFFSET_AT;
 use store_numbers::at::MONTH_AT;
 use store_numbers::at::NUMBER_IN;
+use store_numbers::at::RANK_IN;
 use store_numbers::at::RAW_FROM;
 use store_numbers::at::ROW_IN;
 use store_numbers::at::SETTLED_IN;
+use store_numbers::at::SPARE_IN;
 use store_numbers::at::STATE_IN;
 use store_numbers::at::TR_IN;
 use store_numbers::at::VALUE_IN;
@@ -36,7 +38,7 @@ use store_numbers::at::YEAR_AT;
 use store_numbers::at::ZERO_AT;
 
 // The fields in the order in which `put` names them: where each stands in its record, and how many bytes it has.
-const FIELD_AT: [usize; 18] = [
+const FIELD_AT: [usize; 20] = [
     COUNT_AT,
     LIST_OFFSET_AT,
     BLOCK_OFFSET_AT,
@@ -52,12 +54,14 @@ const FIELD_AT: [usize; 18] = [
     IR_IN,
     TR_IN,
     DD_IN,
+    RANK_IN,
+    SPARE_IN,
     STATE_IN,
     FLAG_IN,
     VALUE_IN,
 ];
 
-const FIELD_WIDTH: [usize; 18] = [2, 2, 2, 2, 2, 2, 2, 2, 4, 2, 2, 1, 1, 1, 1, 1, 1, 2];
+const FIELD_WIDTH: [usize; 20] = [2, 2, 2, 2, 2, 2, 2, 2, 4, 2, 2, 1, 1, 1, 1, 1, 1, 1, 1, 2];
 
 // What is lent: as many bytes of the buffer as a store of n stations has, or some less or more.
 pub struct Lent {
@@ -211,7 +215,7 @@ pub fn put(store: &mut [u8], n: usize, line: &[u8]) {
     let j = which(
         line,
         k,
-        b"n list blocks length year month day zero number row settled filed iR tR dd state flag value",
+        b"n list blocks length year month day zero number row settled filed iR tR dd rank spare state flag value",
     );
     let at = r.at + FIELD_AT[j] % 100;
     let width = FIELD_WIDTH[j] % 5;

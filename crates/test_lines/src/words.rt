@@ -60,18 +60,18 @@ pub fn is(line: &[u8], k: usize, word: &[u8]) -> bool {
     check::same(&line[a..e], word)
 }
 
-// Which of 18 words the k-th of a line is; the last one where it is none of the others.
+// Which of 20 words the k-th of a line is; the last one where it is none of the others.
 pub fn which(line: &[u8], k: usize, words: &[u8]) -> usize
-    ensures { λ r. ⌜ r ≤ 17 ⌝ }
+    ensures { λ r. ⌜ r ≤ 19 ⌝ }
 {
-    for j in 0..17 {
+    for j in 0..19 {
         let a = start(words, j);
         let e = find(words, b' ', a);
         if is(line, k, &words[a..e]) {
             return j;
         }
     }
-    17
+    19
 }
 
 pub fn kind_of(line: &[u8]) -> Kind {
@@ -99,10 +99,10 @@ pub fn kind_of(line: &[u8]) -> Kind {
     Kind::Other
 }
 
-// The number at a place, up to a space.
-fn number_at(line: &[u8], at: usize) -> u32 {
+// The k-th word as a number: 0 where there is none.
+pub fn number_of(line: &[u8], k: usize) -> u32 {
     let mut n = 0;
-    let mut i = at;
+    let mut i = start(line, k);
     while i < line.len() {
         if line[i] == b' ' {
             return n;
@@ -111,11 +111,6 @@ fn number_at(line: &[u8], at: usize) -> u32 {
         i += 1;
     }
     n
-}
-
-// The k-th word as a number: 0 where there is none.
-pub fn number_of(line: &[u8], k: usize) -> u32 {
-    number_at(line, start(line, k))
 }
 
 // How many words an `open` line has of every second one from the k-th on, up to 33.

@@ -7,14 +7,14 @@ use crate::reference::{self, vapour, Cell, DayLine, Mean, Refusal};
 
 pub trait Calls {
     fn open(&self, store: &mut [u8], year: u32, month: u32, day: u32, stations: &[u32], rows: &[u16]) -> u32;
-    fn file(&self, store: &mut [u8], text: &[u8]) -> u32;
+    fn file(&self, store: &mut [u8], text: &[u8], rank: u32) -> u32;
     fn settle(&self, store: &mut [u8], station: u32) -> u32;
     /// `out`: state, flag, value.
     fn cell(&self, store: &[u8], station: u32, element: u32, slot: u32, out: &mut [i32; 3]) -> u32;
     /// `means` and `numbers`: see `day_arrays`.
     fn day(&self, store: &[u8], station: u32, means: &mut [f64; 6], numbers: &mut [i32; 14]) -> u32;
     /// `counts`: accepted, refused.
-    fn bulletin(&self, store: &mut [u8], text: &[u8], counts: &mut [u32; 2]) -> u32;
+    fn bulletin(&self, store: &mut [u8], text: &[u8], rank: u32, counts: &mut [u32; 2]) -> u32;
     fn vapour_table(&self, entries: &mut [u16]) -> u32;
 }
 
@@ -26,8 +26,8 @@ impl Calls for Reference {
         number(reference::open(store, year, month, day, stations, rows), |()| {})
     }
 
-    fn file(&self, store: &mut [u8], text: &[u8]) -> u32 {
-        number(reference::file(store, text), |()| {})
+    fn file(&self, store: &mut [u8], text: &[u8], rank: u32) -> u32 {
+        number(reference::file(store, text, rank), |()| {})
     }
 
     fn settle(&self, store: &mut [u8], station: u32) -> u32 {
@@ -42,8 +42,8 @@ impl Calls for Reference {
         number(reference::day(store, station), |line| (*means, *numbers) = day_arrays(&line))
     }
 
-    fn bulletin(&self, store: &mut [u8], text: &[u8], counts: &mut [u32; 2]) -> u32 {
-        number(reference::bulletin(store, text), |tally| *counts = [tally.accepted, tally.refused])
+    fn bulletin(&self, store: &mut [u8], text: &[u8], rank: u32, counts: &mut [u32; 2]) -> u32 {
+        number(reference::bulletin(store, text, rank), |tally| *counts = [tally.accepted, tally.refused])
     }
 
     fn vapour_table(&self, entries: &mut [u16]) -> u32 {
@@ -101,8 +101,8 @@ impl Calls for Engine {
         arrays::open(store, year, month, day, stations, rows)
     }
 
-    fn file(&self, store: &mut [u8], text: &[u8]) -> u32 {
-        arrays::file(store, text)
+    fn file(&self, store: &mut [u8], text: &[u8], rank: u32) -> u32 {
+        arrays::file(store, text, rank)
     }
 
     fn settle(&self, store: &mut [u8], station: u32) -> u32 {
@@ -117,8 +117,8 @@ impl Calls for Engine {
         arrays::day(store, station, means, numbers)
     }
 
-    fn bulletin(&self, store: &mut [u8], text: &[u8], counts: &mut [u32; 2]) -> u32 {
-        arrays::bulletin(store, text, counts)
+    fn bulletin(&self, store: &mut [u8], text: &[u8], rank: u32, counts: &mut [u32; 2]) -> u32 {
+        arrays::bulletin(store, text, rank, counts)
     }
 
     fn vapour_table(&self, entries: &mut [u16]) -> u32 {

@@ -21,7 +21,7 @@ impl Outcome {
         let answer = pair.step(step).inspect_err(|_| self.failed += 1)?;
         if let Some(answer) = &answer {
             self.passed += 1;
-            self.reached.note(step, &pair.ours, answer);
+            self.reached.note(step, &pair.before, &pair.ours, answer);
         }
         pair.mend();
         Ok(answer.map(|answer| answer.number))
@@ -75,11 +75,13 @@ pub struct Pair<'a> {
     theirs: Vec<u8>,
     /// What to put back before the next step.
     kept: Edits,
+    /// What both held when the last call was made.
+    before: Vec<u8>,
 }
 
 impl<'a> Pair<'a> {
     pub fn new(engine: &'a dyn Calls) -> Pair<'a> {
-        Pair { engine, ours: Vec::new(), theirs: Vec::new(), kept: Edits::new() }
+        Pair { engine, ours: Vec::new(), theirs: Vec::new(), kept: Edits::new(), before: Vec::new() }
     }
 
     /// Makes a step on both: the answer, if it has a call, or the difference.
@@ -95,6 +97,7 @@ impl<'a> Pair<'a> {
         };
         let kept: Edits = damage.iter().map(|&(at, _)| (at, self.ours[at])).rev().collect();
         self.edit(damage);
+        self.before.clone_from(&self.ours);
         let ours = call.make(&Reference, &mut self.ours);
         let theirs = call.make(self.engine, &mut self.theirs);
         if ours != theirs || self.ours != self.theirs {

@@ -1,6 +1,6 @@
 //! The program `dayline` of the paper, over the reference: input in pieces of any size, fixed memory.
 
-use crate::reference::{self, layout::store_length};
+use crate::reference::{self, layout::store_length, store::ORDINARY};
 use std::fmt::Write;
 
 /// Year, month, day, then 32 pairs of station and row.
@@ -88,7 +88,7 @@ impl DayLines {
     /// Files the report that is kept.
     fn file(&mut self) {
         if let Some(store) = &mut self.store {
-            self.refused += u64::from(reference::file(store, &self.report).is_err());
+            self.refused += u64::from(reference::file(store, &self.report, ORDINARY).is_err());
         }
         self.report.clear();
     }

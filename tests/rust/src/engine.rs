@@ -15,7 +15,13 @@ mod c {
             rows: *const u16,
             rows_len: usize,
         ) -> u32;
-        pub fn esfenruk_file(store: *mut u8, store_len: usize, text: *const u8, text_len: usize) -> u32;
+        pub fn esfenruk_file(
+            store: *mut u8,
+            store_len: usize,
+            text: *const u8,
+            text_len: usize,
+            rank: u32,
+        ) -> u32;
         pub fn esfenruk_settle(store: *mut u8, store_len: usize, station: u32) -> u32;
         pub fn esfenruk_cell(
             store: *const u8,
@@ -37,6 +43,7 @@ mod c {
             store_len: usize,
             text: *const u8,
             text_len: usize,
+            rank: u32,
             counts: *mut [u32; 2],
         ) -> u32;
         pub fn esfenruk_vapour_table(entries: *mut u16, entries_len: usize) -> u32;
@@ -91,8 +98,9 @@ pub fn open(
     answer(arrays::open(store, year, month, day, stations, rows), ())
 }
 
-pub fn file(store: &mut [u8], text: &[u8]) -> Result<(), Number> {
-    answer(arrays::file(store, text), ())
+/// Files a report at a rank: 0 for an ordinary one, 1 to 24 for an amended one, CCA to CCX.
+pub fn file(store: &mut [u8], text: &[u8], rank: u32) -> Result<(), Number> {
+    answer(arrays::file(store, text, rank), ())
 }
 
 pub fn settle(store: &mut [u8], station: u32) -> Result<(), Number> {
@@ -112,9 +120,10 @@ pub fn day(store: &[u8], station: u32) -> Result<DayLine, Number> {
     answer(number, day_line(&means, &numbers))
 }
 
-pub fn bulletin(store: &mut [u8], text: &[u8]) -> Result<Tally, Number> {
+/// Files the reports of a bulletin, all at one rank.
+pub fn bulletin(store: &mut [u8], text: &[u8], rank: u32) -> Result<Tally, Number> {
     let mut counts = [0; 2];
-    let number = arrays::bulletin(store, text, &mut counts);
+    let number = arrays::bulletin(store, text, rank, &mut counts);
     answer(number, Tally { accepted: counts[0], refused: counts[1] })
 }
 
@@ -170,8 +179,8 @@ pub mod arrays {
         }
     }
 
-    pub fn file(store: &mut [u8], text: &[u8]) -> u32 {
-        unsafe { c::esfenruk_file(store.as_mut_ptr(), store.len(), text.as_ptr(), text.len()) }
+    pub fn file(store: &mut [u8], text: &[u8], rank: u32) -> u32 {
+        unsafe { c::esfenruk_file(store.as_mut_ptr(), store.len(), text.as_ptr(), text.len(), rank) }
     }
 
     pub fn settle(store: &mut [u8], station: u32) -> u32 {
@@ -192,8 +201,10 @@ pub mod arrays {
     }
 
     /// `counts`: accepted, refused.
-    pub fn bulletin(store: &mut [u8], text: &[u8], counts: &mut [u32; 2]) -> u32 {
-        unsafe { c::esfenruk_bulletin(store.as_mut_ptr(), store.len(), text.as_ptr(), text.len(), counts) }
+    pub fn bulletin(store: &mut [u8], text: &[u8], rank: u32, counts: &mut [u32; 2]) -> u32 {
+        unsafe {
+            c::esfenruk_bulletin(store.as_mut_ptr(), store.len(), text.as_ptr(), text.len(), rank, counts)
+        }
     }
 
     pub fn vapour_table(entries: &mut [u16]) -> u32 {

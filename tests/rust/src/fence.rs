@@ -77,8 +77,8 @@ impl Calls for Fenced<'_> {
         self.write(store, &[], |store, _| self.engine.open(store, year, month, day, stations, rows))
     }
 
-    fn file(&self, store: &mut [u8], text: &[u8]) -> u32 {
-        self.write(store, text, |store, text| self.engine.file(store, text))
+    fn file(&self, store: &mut [u8], text: &[u8], rank: u32) -> u32 {
+        self.write(store, text, |store, text| self.engine.file(store, text, rank))
     }
 
     fn settle(&self, store: &mut [u8], station: u32) -> u32 {
@@ -93,8 +93,8 @@ impl Calls for Fenced<'_> {
         self.read(store, |store| self.engine.day(store, station, means, numbers))
     }
 
-    fn bulletin(&self, store: &mut [u8], text: &[u8], counts: &mut [u32; 2]) -> u32 {
-        self.write(store, text, |store, text| self.engine.bulletin(store, text, counts))
+    fn bulletin(&self, store: &mut [u8], text: &[u8], rank: u32, counts: &mut [u32; 2]) -> u32 {
+        self.write(store, text, |store, text| self.engine.bulletin(store, text, rank, counts))
     }
 
     fn vapour_table(&self, entries: &mut [u16]) -> u32 {

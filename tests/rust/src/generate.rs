@@ -8,7 +8,7 @@ pub mod texts;
 
 use crate::calls::Calls;
 use crate::reference::layout::store_length;
-use crate::reference::store::D;
+use crate::reference::store::{D, HIGHEST_RANK};
 use crate::reference::vapour;
 use rng::Rng;
 use std::fmt;
@@ -19,11 +19,11 @@ use texts::Weather;
 #[derive(Clone, Debug)]
 pub enum Call {
     Open(Opening),
-    File { text: Vec<u8> },
+    File { text: Vec<u8>, rank: u32 },
     Settle { station: u32 },
     Cell { station: u32, element: u32, slot: u32 },
     Day { station: u32 },
-    Bulletin { text: Vec<u8> },
+    Bulletin { text: Vec<u8>, rank: u32 },
     VapourTable { entries: Vec<u16> },
 }
 
@@ -59,11 +59,11 @@ impl Call {
         let mut slice = Vec::new();
         let number = match self {
             Call::Open(o) => calls.open(store, o.year, o.month, o.day, &o.stations, &o.rows),
-            Call::File { text } => calls.file(store, text),
+            Call::File { text, rank } => calls.file(store, text, *rank),
             Call::Settle { station } => calls.settle(store, *station),
             Call::Cell { station, element, slot } => calls.cell(store, *station, *element, *slot, &mut cell),
             Call::Day { station } => calls.day(store, *station, &mut means, &mut numbers),
-            Call::Bulletin { text } => calls.bulletin(store, text, &mut counts),
+            Call::Bulletin { text, rank } => calls.bulletin(store, text, *rank, &mut counts),
             Call::VapourTable { entries } => {
                 slice.clone_from(entries);
                 calls.vapour_table(&mut slice)
@@ -94,11 +94,11 @@ impl fmt::Display for Call {
             Call::Open(o) => {
                 write!(f, "open {} {} {} {:?} {:?}", o.year, o.month, o.day, o.stations, o.rows)
             }
-            Call::File { text } => write!(f, "file \"{}\"", text.escape_ascii()),
+            Call::File { text, rank } => write!(f, "file {rank} \"{}\"", text.escape_ascii()),
             Call::Settle { station } => write!(f, "settle {station}"),
             Call::Cell { station, element, slot } => write!(f, "cell {station} {element} {slot}"),
             Call::Day { station } => write!(f, "day {station}"),
-            Call::Bulletin { text } => write!(f, "bulletin \"{}\"", text.escape_ascii()),
+            Call::Bulletin { text, rank } => write!(f, "bulletin {rank} \"{}\"", text.escape_ascii()),
             Call::VapourTable { entries } => write!(f, "vapour_table of {} numbers", entries.len()),
         }
     }
@@ -197,12 +197,22 @@ impl Scene {
         let index = rng.below(self.weather.len());
         let station = self.any_station(rng, index);
         match rng.below(20) {
-            0..=7 => Call::File { text: self.any_text(rng) },
+            0..=7 => Call::File { text: self.any_text(rng), rank: any_rank(rng) },
             8..=10 => Call::Settle { station },
             11..=14 => Call::Cell { station, element: any_index(rng), slot: any_index(rng) },
             15..=17 => Call::Day { station },
-            _ => Call::Bulletin { text: self.any_bulletin(rng) },
+            _ => Call::Bulletin { text: self.any_bulletin(rng), rank: any_rank(rng) },
         }
+    }
+
+    /// A report for a station and slot of the store, filed at a rank; of those above 0 some more are NIL.
+    fn filing(&mut self, rng: &mut Rng, index: usize, slot: usize, rank: u32) -> Step {
+        let mut groups = self.report(rng, index, slot);
+        if rank > 0 && rng.chance(8) {
+            groups.truncate(3);
+            groups.push(b"NIL".to_vec());
+        }
+        Step::Call(Call::File { text: texts::join(rng, &groups), rank })
     }
 
     /// A text to file: mostly a report, at times damaged or no report at all.
@@ -290,34 +300,43 @@ fn any_index(rng: &mut Rng) -> u32 {
     }
 }
 
-/// A day as it should be: most reports of most slots come, then all is settled and read; then some more.
+/// A rank: mostly an ordinary report's or one of the first letters'; some are above 24, with low bytes that are not.
+fn any_rank(rng: &mut Rng) -> u32 {
+    match rng.below(20) {
+        0..=9 => 0,
+        10..=13 => rng.between(1, 3) as u32,
+        14..=17 => rng.below(HIGHEST_RANK as usize + 1) as u32,
+        18 => rng.pick(&[HIGHEST_RANK - 1, HIGHEST_RANK, HIGHEST_RANK + 1, HIGHEST_RANK + 2]),
+        _ => rng.pick(&[HIGHEST_RANK + 1, 127, 128, 255, 256, 257, 1 << 16, 1 << 31, u32::MAX]),
+    }
+}
+
+/// The ranks at which the reports of one slot come: the ordinary one, then mostly the letters in turn; some are skipped,
+/// one comes again, or any does.
+fn ranks(rng: &mut Rng, amended: usize) -> Vec<u32> {
+    let mut ranks = vec![0];
+    let mut last: u32 = 0;
+    while rng.chance(amended) && ranks.len() < 6 {
+        last = match rng.below(10) {
+            0..=4 => last.saturating_add(1),
+            5 | 6 => last.saturating_add(rng.between(2, 9) as u32),
+            7 => last,
+            _ => any_rank(rng),
+        };
+        ranks.push(last);
+    }
+    ranks
+}
+
+/// A day as it should be: most reports of most slots come, amended ones at times, then all is settled and read; then
+/// some more.
 fn full_day(rng: &mut Rng) -> Vec<Step> {
     let mut scene = Scene::new(rng);
     let mut steps = scene.start(rng);
-    let n = scene.weather.len();
-    let lost = rng.pick(&[0, 0, 5, 15, 40]);
     if rng.chance(70) {
-        let mut order: Vec<(usize, usize)> = (0..9).flat_map(|slot| (0..n).map(move |i| (i, slot))).collect();
-        if rng.chance(50) {
-            rng.shuffle(&mut order);
-        }
-        for (index, slot) in order {
-            if !rng.chance(lost) {
-                let groups = scene.report(rng, index, slot);
-                steps.push(Step::Call(Call::File { text: texts::join(rng, &groups) }));
-            }
-        }
+        one_by_one(rng, &mut scene, &mut steps);
     } else {
-        for slot in 0..9 {
-            let mut reports = Vec::new();
-            for index in 0..n {
-                if !rng.chance(lost) {
-                    reports.push(scene.report(rng, index, slot).split_off(2));
-                }
-            }
-            let heading = texts::heading_of(rng, &scene.opening, slot);
-            steps.push(Step::Call(Call::Bulletin { text: texts::bulletin(rng, &heading, &reports) }));
-        }
+        in_bulletins(rng, &mut scene, &mut steps);
     }
     for &station in &scene.opening.stations {
         steps.push(Step::Call(Call::Settle { station }));
@@ -327,10 +346,73 @@ fn full_day(rng: &mut Rng) -> Vec<Step> {
             steps.push(Step::Call(Call::Cell { station, element, slot }));
         }
     }
+    if rng.chance(40) {
+        amended_late(rng, &mut scene, &mut steps);
+    }
     for _ in 0..rng.below(12) {
         steps.push(Step::Call(scene.any_call(rng)));
     }
     steps
+}
+
+/// How often, in a hundred, a report is lost, and how often one more comes for its slot.
+fn lost_and_amended(rng: &mut Rng) -> (usize, usize) {
+    (rng.pick(&[0, 0, 5, 15, 40]), rng.pick(&[0, 0, 10, 50]))
+}
+
+/// Reports slot by slot, or all that are amended after the others, or in any order.
+fn one_by_one(rng: &mut Rng, scene: &mut Scene, steps: &mut Vec<Step>) {
+    let (lost, amended) = lost_and_amended(rng);
+    let mut reports = Vec::new();
+    for (slot, index) in (0..9).flat_map(|slot| (0..scene.weather.len()).map(move |index| (slot, index))) {
+        let ranks = ranks(rng, amended);
+        reports.extend(ranks.into_iter().enumerate().map(|(turn, rank)| (turn, index, slot, rank)));
+    }
+    match rng.below(4) {
+        0 => {}
+        1 => reports.sort_by_key(|&(turn, ..)| turn),
+        _ => rng.shuffle(&mut reports),
+    }
+    for (_, index, slot, rank) in reports {
+        if !rng.chance(lost) {
+            steps.push(scene.filing(rng, index, slot, rank));
+        }
+    }
+}
+
+/// Bulletins slot by slot; an amended one has some of the stations.
+fn in_bulletins(rng: &mut Rng, scene: &mut Scene, steps: &mut Vec<Step>) {
+    let (lost, amended) = lost_and_amended(rng);
+    for slot in 0..9 {
+        for (turn, rank) in ranks(rng, amended).into_iter().enumerate() {
+            let left_out = if turn == 0 { lost } else { 50 };
+            let mut reports = Vec::new();
+            for index in 0..scene.weather.len() {
+                if !rng.chance(left_out) {
+                    reports.push(scene.report(rng, index, slot).split_off(2));
+                }
+            }
+            let heading = texts::heading_of(rng, &scene.opening, slot);
+            let text = texts::bulletin(rng, &heading, &reports);
+            steps.push(Step::Call(Call::Bulletin { text, rank }));
+        }
+    }
+}
+
+/// Amended reports for settled stations, each of which is read, settled again and read; at times one more for the same
+/// slot, at that rank or beside it.
+fn amended_late(rng: &mut Rng, scene: &mut Scene, steps: &mut Vec<Step>) {
+    for _ in 0..1 + rng.below(3) {
+        let (index, slot) = (rng.below(scene.weather.len()), rng.below(9));
+        let station = scene.opening.stations[index];
+        let rank = if rng.chance(50) { any_rank(rng) } else { 1 + rng.below(HIGHEST_RANK as usize) as u32 };
+        let next = rng.pick(&[rank, rank, rank.saturating_sub(1), rank.saturating_add(1)]);
+        for rank in [rank, next].into_iter().take(1 + rng.below(2)) {
+            steps.push(scene.filing(rng, index, slot, rank));
+            let day = || Call::Day { station };
+            steps.extend([look(rng, station), day(), Call::Settle { station }, day()].map(Step::Call));
+        }
+    }
 }
 
 /// All calls on all stations in any order, with right and wrong arguments.
@@ -353,13 +435,13 @@ fn texts_only(rng: &mut Rng) -> Vec<Step> {
             steps.push(Step::Call(Call::Open(scene.opening.clone())));
         }
         steps.push(Step::Call(if rng.chance(15) {
-            Call::Bulletin { text: scene.any_bulletin(rng) }
+            Call::Bulletin { text: scene.any_bulletin(rng), rank: any_rank(rng) }
         } else if rng.chance(10) {
             let mut groups = scene.any_report(rng);
             texts::near_limit(rng, &mut groups);
-            Call::File { text: texts::join_to_limit(rng, &groups) }
+            Call::File { text: texts::join_to_limit(rng, &groups), rank: any_rank(rng) }
         } else {
-            Call::File { text: scene.any_text(rng) }
+            Call::File { text: scene.any_text(rng), rank: any_rank(rng) }
         }));
     }
     steps

@@ -7,6 +7,7 @@ pub mod comparison;
 pub mod dayline;
 pub mod generate;
 pub mod mutation;
+pub mod place;
 pub mod played;
 pub mod reached;
 pub mod reference;

@@ -2,16 +2,18 @@
 //! that the comparison notices.
 
 mod humidity;
+mod rank;
 
 use crate::calls::{Calls, Reference};
 use crate::reference::layout::{Field, Record, ENTRY, FLAG, HEADER, SETTLED, STATE, ZERO};
 use crate::reference::store;
 use humidity::humid_temperatures_read;
+use rank::heads_taken_for_sound;
 use std::slice;
 use std::sync::atomic::{AtomicUsize, Ordering};
 
 /// What the mock can do wrong; the first is nothing.
-pub const FAULTS: [&str; 34] = [
+pub const FAULTS: [&str; 61] = [
     "no fault",
     "open leaves the last byte as it was",
     "a refused open writes a byte",
@@ -46,6 +48,33 @@ pub const FAULTS: [&str; 34] = [
     "a humidity is in no count",
     "a humidity in T's cells is sound",
     "cell gives a humidity as a value read",
+    "a report of an equal rank replaces",
+    "a report of a lower rank replaces",
+    "a rank below the slot's is answered 8",
+    "an equal rank is answered 13",
+    "a rank above 24 is tested after check 1",
+    "a rank above 24 is tested with the slot's rank",
+    "rank 25 is taken for 24",
+    "rank 24 is refused",
+    "a rank is cut to its low byte",
+    "NIL is compared with the slot's rank",
+    "NIL of a higher rank raises the slot's",
+    "a report that replaces leaves the station settled",
+    "a report refused 13 clears settled",
+    "the rank is not written",
+    "of a replaced slot the raw cells stay",
+    "of a replaced slot iR, tR and dd stay",
+    "a report that replaces leaves the cells of the groups that it lacks",
+    "rank 25 is sound in a filed slot",
+    "a rank is sound in an unfiled slot",
+    "a spare byte other than 0 is sound",
+    "a bulletin above rank 24 has its reports refused one by one",
+    "a bulletin above rank 24 has its heading tested first",
+    "a bulletin's reports are filed at rank 0",
+    "a bulletin's first report alone is filed at its rank",
+    "a rank that skips letters is refused 13",
+    "a free slot refuses a rank above 0",
+    "a report that replaces empties the slot's checked cells",
 ];
 
 static FAULT: AtomicUsize = AtomicUsize::new(0);
@@ -110,11 +139,12 @@ unsafe extern "C" fn esfenruk_file(
     store_len: usize,
     text: *const u8,
     text_len: usize,
+    rank: u32,
 ) -> u32 {
     let store = lent_mut(store, store_len);
     let text = lent(text, text_len);
     let before = store.to_vec();
-    let number = Reference.file(store, text);
+    let number = rank::file(store, text, rank);
     let nil = text.ends_with(b"NIL=");
     if fault(4) && number == 5 {
         return 3;
@@ -171,6 +201,9 @@ unsafe extern "C" fn esfenruk_cell(
     if fault(32) && number == 9 {
         return Reference.cell(&humid_temperatures_read(store), station, element, slot, &mut *out);
     }
+    if (51..54).any(fault) && number == 9 {
+        return Reference.cell(&heads_taken_for_sound(store), station, element, slot, &mut *out);
+    }
     if fault(33) && number == 0 && (*out)[0] == store::HUMIDITY.into() {
         (*out)[0] = store::READ.into();
     }
@@ -205,6 +238,9 @@ unsafe extern "C" fn esfenruk_day(
     if fault(32) && number == 9 {
         return Reference.day(&humid_temperatures_read(store), station, means, numbers);
     }
+    if (51..54).any(fault) && number == 9 {
+        return Reference.day(&heads_taken_for_sound(store), station, means, numbers);
+    }
     if number == 0 {
         humidity::day(store, station, means, numbers);
     }
@@ -217,6 +253,7 @@ unsafe extern "C" fn esfenruk_bulletin(
     store_len: usize,
     text: *const u8,
     text_len: usize,
+    rank: u32,
     counts: *mut [u32; 2],
 ) -> u32 {
     let store = lent_mut(store, store_len);
@@ -225,7 +262,7 @@ unsafe extern "C" fn esfenruk_bulletin(
     if fault(15) && text_len == 16384 {
         return 1;
     }
-    let number = Reference.bulletin(store, text, counts);
+    let number = rank::bulletin(store, text, rank, counts);
     if fault(14) && number == 0 && matches!(text.last(), Some(b' ' | b'\r' | b'\n')) {
         counts[1] += 1;
     }

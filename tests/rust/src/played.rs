@@ -8,8 +8,8 @@
 //! poke AT BYTE             one byte set                       > -
 //! write AT HEX             bytes set                          > -
 //! open Y M D (S ROW)*                                         > ok
-//! file HEX                 a text in hex, `-` the empty one   > ok
-//! bulletin HEX                                                > counts ACCEPTED REFUSED
+//! file HEX RANK            a text in hex, `-` the empty one   > ok
+//! bulletin HEX RANK                                           > counts ACCEPTED REFUSED
 //! settle S                                                    > ok
 //! cell S ELEMENT SLOT                                         > cell STATE FLAG VALUE
 //! day S                                                       > day T D P W C E RAIN WARMEST COLDEST and four counts
@@ -61,8 +61,8 @@ fn call(word: &str, words: &[&str]) -> Option<Call> {
     let numbers = || words.iter().map(|word| word.parse().ok()).collect::<Option<Vec<u32>>>();
     Some(match (word, words) {
         ("open", _) => Call::Open(opening(&numbers()?)?),
-        ("file", [hex]) => Call::File { text: text(hex)? },
-        ("bulletin", [hex]) => Call::Bulletin { text: text(hex)? },
+        ("file", [hex, rank]) => Call::File { text: text(hex)?, rank: rank.parse().ok()? },
+        ("bulletin", [hex, rank]) => Call::Bulletin { text: text(hex)?, rank: rank.parse().ok()? },
         ("settle", [_]) => Call::Settle { station: numbers()?[0] },
         ("cell", [_, _, _]) => {
             let numbers = numbers()?;

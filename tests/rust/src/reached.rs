@@ -1,6 +1,8 @@
 //! What the calls of a run reached: every answer of every call, and the places where a rule turns.
 //! A row for each, with the numbers that must come up in it; one that never did shows as 0.
 
+mod ranks;
+
 use crate::generate::stores::Opening;
 use crate::generate::{Answer, Call, Step};
 use crate::reference::calendar::Date;
@@ -13,11 +15,11 @@ use std::collections::BTreeMap;
 /// The rows: the answers of each call, then the rest.
 pub const ROWS: &[(&str, &[u32])] = &[
     ("open", &[0, 10]),
-    ("file", &[0, 1, 2, 3, 4, 5, 6, 7, 8, 9]),
+    ("file", &[0, 1, 2, 3, 4, 5, 6, 7, 8, 9, 13]),
     ("settle", &[0, 6, 9]),
     ("cell", &[0, 6, 9, 11, 12]),
     ("day", &[0, 6, 9, 11]),
-    ("bulletin", &[0, 1, 3, 4, 9]),
+    ("bulletin", &[0, 1, 3, 4, 9, 13]),
     ("vapour_table", &[0, 1001]),
     // What alone is wrong with a refused opening, as `opening_faults` has them.
     ("open: the one fault", &[0, 1, 2, 3, 4, 5, 6]),
@@ -32,6 +34,8 @@ pub const ROWS: &[(&str, &[u32])] = &[
     ("unsound: length", &[0, 1, 2, 3]),
     // What makes a cell of state 4 unsound: 0 the element, 1 the value, 2 a raw cell's flag, 3 a checked cell's.
     ("unsound: humidity", &[0, 1, 2, 3]),
+    // 0 above 24 in a filed slot; in an unfiled one, 1 from 1 to 24, 2 above.
+    ("unsound: rank", &[0, 1, 2]),
     ("file: bytes of an accepted text", &[511, 512]),
     ("file: bytes of a text refused 1", &[0, 1, 512, 513]),
     ("file: slot", &[0, 1, 2, 3, 4, 5, 6, 7, 8]),
@@ -45,6 +49,18 @@ pub const ROWS: &[(&str, &[u32])] = &[
     ("file: UUU in section 1", &[0, 1, 100, 101, 999]),
     ("file: UUU in section 1, place of a `/`", &[0, 1, 2]),
     ("file: UUU in section 3", &[0, 1, 100, 101]),
+    ("file: rank above 24", ABOVE_24),
+    // What the same text would get at rank 24.
+    ("file: above 24, at 24 answered", &[0, 1, 2, 3, 4, 5, 6, 7, 8]),
+    ("file: NIL above 24 where filed is", &[0, 1]),
+    // 0 below the slot's, 1 equal, 2 above.
+    ("file: NIL where filed, its rank", &[0, 1, 2]),
+    ("file: rank in a free slot", first(25)),
+    ("file: rank refused 8", first(25)),
+    ("file: slot's rank, refused 13 below it", first(25).split_at(1).1),
+    ("file: rank that replaced a lower one", first(25).split_at(1).1),
+    ("file: letters skipped where replaced", &[0, 1, 2, 23]),
+    ("file: replaced where settled was", &[0, 1]),
     ("T read", &[0, 1]),
     ("D read", &[0, 1, 4]),
     ("P read", &[0, 1]),
@@ -100,16 +116,25 @@ pub const ROWS: &[(&str, &[u32])] = &[
     ("bulletin: bytes of a report rebuilt", &[11, 511, 512, 513]),
     // 0 none, 1 some, 2 all.
     ("bulletin: accepted", &[0, 1, 2]),
+    ("bulletin: rank above 24", ABOVE_24),
+    // What the same text would get at rank 24.
+    ("bulletin: above 24, at 24 answered", &[0, 1, 3, 4]),
+    // 0 free; filed: 1 replaced, 2 refused 8 at rank 0, 3 at a higher one, 4 refused 13, 5 NIL below its rank.
+    ("bulletin: slot that a report met", &[0, 1, 2, 3, 4, 5]),
     ("vapour_table: numbers lent", &[0, 1, 1000, 1001, 1002, 2002]),
 ];
 
 /// 0, 1, .. n - 1.
 const fn first(n: usize) -> &'static [u32] {
-    const NUMBERS: &[u32] = &[0, 1, 2, 3, 4, 5, 6, 7, 8, 9, 10, 11, 12, 13, 14, 15];
+    const NUMBERS: &[u32] =
+        &[0, 1, 2, 3, 4, 5, 6, 7, 8, 9, 10, 11, 12, 13, 14, 15, 16, 17, 18, 19, 20, 21, 22, 23, 24];
     NUMBERS.split_at(n).0
 }
 
-const READ: usize = 29;
+/// Ranks above 24; the low bytes of some are not.
+const ABOVE_24: &[u32] = &[25, 26, 127, 128, 255, 256, 257, 1 << 16, 1 << 31, u32::MAX];
+
+const READ: usize = 40;
 const STATE: usize = READ + 9;
 const FLAG: usize = STATE + 9;
 const MEAN: usize = FLAG + 12;
@@ -129,8 +154,8 @@ impl Reached {
         wanted.filter(|&(row, number)| self.count(row, number) == 0).collect()
     }
 
-    /// A call, the buffer after it and the answer.
-    pub fn note(&mut self, step: &Step, store: &[u8], answer: &Answer) {
+    /// A call, the buffer before and after it, and the answer.
+    pub fn note(&mut self, step: &Step, before: &[u8], store: &[u8], answer: &Answer) {
         let (edits, call) = match step {
             Step::Lend(_) => return,
             Step::Call(call) => (&[] as &[_], call),
@@ -140,14 +165,20 @@ impl Reached {
         match (call, answer.number) {
             (Call::Open(opening), number) => self.open(opening, store, number),
             (_, 9) => self.unsound(store, edits),
-            (Call::File { text }, number) => self.file(text, store, number),
+            (Call::File { text, rank }, number) => {
+                self.file(text, store, number);
+                self.file_at(text, *rank, before, number);
+            }
             (Call::Settle { station }, 0) => self.settle(*station, store),
             (Call::Cell { .. }, 0) => self.cell(answer),
             (Call::Day { station }, 0) => {
                 self.day(answer);
                 self.humid_day(*station, store, answer);
             }
-            (Call::Bulletin { text }, number) => self.bulletin(text, number, answer.counts),
+            (Call::Bulletin { text, rank }, number) => {
+                self.bulletin(text, number, answer.counts);
+                self.bulletin_at(text, *rank, before, number);
+            }
             (Call::VapourTable { entries }, _) => {
                 self.add("vapour_table: numbers lent", entries.len() as u32)
             }
@@ -191,6 +222,7 @@ impl Reached {
         };
         self.add(row, field as u32);
         self.unsound_humidity(store, n, record);
+        self.unsound_rank(store, n, record);
     }
 
     /// The one thing that makes a cell of state 4 unsound, in a buffer as long as a store of n stations.
@@ -216,11 +248,7 @@ impl Reached {
             _ => {}
         }
         let (Ok(report), 0 | 8) = (report::read(text), number) else { return };
-        let (Ok(index), Some(slot)) =
-            (store::find(store, report.station), store::date(store).slot(report.yy, report.gg))
-        else {
-            return;
-        };
+        let Ok((index, slot)) = report.place(store) else { return };
         match report.observation {
             None => self
                 .add("file: NIL where filed is", store::head(store::block(store, index), slot).filed.into()),

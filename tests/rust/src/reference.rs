@@ -1,5 +1,5 @@
 //! The papers in plain Rust, section by section: document 01's calls on a lent buffer; of document 02, S-1
-//! (`vapour::fill`), which has no buffer of that kind, and S-2, a humidity in D's cell.
+//! (`vapour::fill`), which has no buffer of that kind, S-2, a humidity in D's cell, and S-3, the ranks of reports.
 //!
 //! Written from the papers alone. Every call on a buffer but open tests the whole of it first, and a refused
 //! call writes nothing.
@@ -39,10 +39,11 @@ pub fn open(
     Ok(())
 }
 
-/// Files one report.
-pub fn file(store: &mut [u8], text: &[u8]) -> Result<(), Refusal> {
+/// Files one report at a rank.
+pub fn file(store: &mut [u8], text: &[u8], rank: u32) -> Result<(), Refusal> {
     store::require_sound(store)?;
-    report::file(store, text)
+    let rank = report::rank(rank)?;
+    report::file(store, text, rank)
 }
 
 /// Checks a station's raw cells and marks it settled.
@@ -72,8 +73,9 @@ pub fn day(store: &[u8], station: u32) -> Result<DayLine, Refusal> {
     Ok(day::day_line(store::block(store, index)))
 }
 
-/// Files the reports of a bulletin and counts them.
-pub fn bulletin(store: &mut [u8], text: &[u8]) -> Result<Tally, Refusal> {
+/// Files the reports of a bulletin at one rank and counts them.
+pub fn bulletin(store: &mut [u8], text: &[u8], rank: u32) -> Result<Tally, Refusal> {
     store::require_sound(store)?;
-    bulletin::file_all(store, text)
+    let rank = report::rank(rank)?;
+    bulletin::file_all(store, text, rank)
 }

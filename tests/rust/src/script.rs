@@ -10,8 +10,8 @@
 //! edit RECORD FIELD NUMBER ..   fields set before the next call, and put back where it is refused 9
 //! edit byte AT BYTE ..     bytes, in the same way
 //! open Y M D S,.. R,..     date, stations, rows
-//! file TEXT
-//! bulletin TEXT
+//! file RANK TEXT
+//! bulletin RANK TEXT
 //! grow N                   the next text has N bytes, by spaces before its last byte
 //! settle S
 //! cell S ELEMENT SLOT
@@ -25,7 +25,7 @@
 //! ```text
 //! header                   n list blocks length year month day zero
 //! entry S                  number row settled
-//! head S SLOT              filed iR tR dd
+//! head S SLOT              filed iR tR dd rank spare
 //! raw S ELEMENT SLOT       state flag value       ELEMENT is one of T D P W C V R X M
 //! checked S ELEMENT SLOT   state flag value
 //! ```
@@ -94,12 +94,12 @@ impl Reader {
             }
             Some(b'g') => self.grown = LONGEST_TEXT.min(next() as usize),
             Some(b'f') => {
-                let text = self.text(rest);
-                self.call(Call::File { text });
+                let (rank, text) = self.ranked(rest);
+                self.call(Call::File { text, rank });
             }
             Some(b'b') => {
-                let text = self.text(rest);
-                self.call(Call::Bulletin { text });
+                let (rank, text) = self.ranked(rest);
+                self.call(Call::Bulletin { text, rank });
             }
             Some(b's') => self.call(Call::Settle { station: next() }),
             Some(b'c') => self.call(Call::Cell { station: next(), element: next(), slot: next() }),
@@ -144,6 +144,13 @@ impl Reader {
             self.tables += 1;
             self.call(Call::VapourTable { entries: no_entries(len.min(LONGEST_TABLE)) });
         }
+    }
+
+    /// The rank and the text of a filing line.
+    fn ranked(&mut self, rest: &[u8]) -> (u32, Vec<u8>) {
+        let mut parts = rest.splitn(2, |&byte| byte == b' ');
+        let rank = number(parts.next().unwrap_or(b""));
+        (rank, self.text(parts.next().unwrap_or(b"")))
     }
 
     fn text(&mut self, written: &[u8]) -> Vec<u8> {

@@ -1,11 +1,14 @@
 //! All of a small set each, where a generated run takes samples: every value of a code, every byte of a
 //! store, every date, every short list of groups. The store is mostly that of 2024-04-11 and station 40001.
 
+mod ranks;
+
 use crate::generate::stores::{fresh, Edits, Opening};
 use crate::generate::{no_entries, Call, Step};
 use crate::reference;
 use crate::reference::layout::{self, store_length, Field, Record, DD, FILED, TR};
-use crate::reference::store::{self, Cell, Head, C, D, FILLED, HUMIDITY, M, MISSING, P, R, READ, T, W, X};
+use crate::reference::store::{self, Cell, Head};
+use crate::reference::store::{C, D, FILLED, HUMIDITY, M, MISSING, ORDINARY, P, R, READ, T, W, X};
 use crate::reference::vapour;
 
 /// Steps, one after the other.
@@ -13,7 +16,7 @@ type Take<'a> = &'a mut dyn FnMut(Step);
 
 type Sweep = fn(Take);
 
-pub const SWEEPS: [(&str, Sweep); 27] = [
+pub const SWEEPS: [(&str, Sweep); 33] = [
     ("each byte of a store, each value", bytes_of_a_store),
     ("each field of a store, beside where soundness turns", fields_of_a_store),
     ("each cell's state, flag and value together", cells_of_a_store),
@@ -41,6 +44,12 @@ pub const SWEEPS: [(&str, Sweep); 27] = [
     ("humidities through the steps", humid_steps),
     ("each T with a humidity", humid_temperatures),
     ("day lines with humidities", humid_days),
+    ("each head's filed, rank and spare byte together", ranks::heads_of_a_store),
+    ("each rank after each rank", ranks::pairs),
+    ("NIL at each rank", ranks::nils),
+    ("each rank with each refusal of a text", ranks::refused_texts),
+    ("ranks above 24", ranks::above_24),
+    ("bulletins at each rank", ranks::bulletins),
 ];
 
 const STATION: u32 = 40001;
@@ -85,7 +94,17 @@ fn lend(take: Take) {
 
 /// Files a text after slot 0 is made free.
 fn file_anew(take: Take, text: Vec<u8>) {
-    take(Step::Damaged { edits: head(0, FILED, 0), call: Call::File { text } });
+    take(Step::Damaged { edits: head(0, FILED, 0), call: file(text) });
+}
+
+/// An ordinary report.
+fn file(text: Vec<u8>) -> Call {
+    Call::File { text, rank: ORDINARY }
+}
+
+/// A bulletin of ordinary reports.
+fn bulletin(text: Vec<u8>) -> Call {
+    Call::Bulletin { text, rank: ORDINARY }
 }
 
 /// Every string of so many of these characters.
@@ -107,8 +126,8 @@ fn bytes_of_a_store(take: Take) {
     let mut store = opened([2024, 4, 11], 0);
     let dew_point = b"AAXX 11061 40001 12360 62704 10103 20071 40132 60042 333 10120 20080=";
     let humidity = b"AAXX 11121 40001 12360 62704 10103 29080=";
-    for text in [dew_point.as_slice(), humidity] {
-        reference::file(&mut store, text).expect("a good report");
+    for (text, rank) in [(dew_point.as_slice(), 0), (humidity, 3)] {
+        reference::file(&mut store, text, rank).expect("a good report");
     }
     reference::settle(&mut store, STATION).expect("a station");
     for at in 0..store.len() {
@@ -137,16 +156,26 @@ fn number_in(store: &[u8], record: Record, field: Field) -> u32 {
 }
 
 /// The numbers where soundness turns, the one that stands there, the stations', bytes in the wrong order, the ends of
-/// one, two and four bytes: each of these, and the numbers beside it.
+/// one, two and four bytes: each of these, and the numbers beside it. Heads also where all slots are filed, at any rank.
 fn fields_of_a_store(take: Take) {
-    let store = two();
-    for (record, field) in Record::all(TWO).flat_map(|r| r.fields().iter().map(move |&field| (r, field))) {
-        let right = number_in(&store, record, field);
+    fields_of(take, &two(), |_| true);
+    let mut filed = two();
+    for (index, slot) in (0..TWO).flat_map(|index| (0..9).map(move |slot| (index, slot))) {
+        let head = Head { filed: 1, rank: 3 * slot as u8, ..Head::UNFILED };
+        store::put_head(store::block_mut(&mut filed, index), slot, head);
+    }
+    fields_of(take, &filed, |record| matches!(record, Record::Head { .. }));
+}
+
+fn fields_of(take: Take, store: &[u8], wanted: fn(&Record) -> bool) {
+    let records = Record::all(TWO).filter(wanted);
+    for (record, field) in records.flat_map(|r| r.fields().iter().map(move |&field| (r, field))) {
+        let right = number_in(store, record, field);
         let swapped = right.swap_bytes() >> (32 - 8 * field.width);
         let most = u32::MAX >> (32 - 8 * field.width);
         let turns = [right, swapped, most, 0, 1 << 8, 1 << 15, 1 << 16, 1 << 17, 1 << 31];
         let turns = turns.iter().chain(&STATIONS).chain(field.turns);
-        take(Step::Lend(store.clone()));
+        take(Step::Lend(store.to_vec()));
         for turn in turns.filter(|&&turn| turn <= most) {
             for number in [turn.wrapping_sub(1) & most, *turn, turn.wrapping_add(1) & most] {
                 take(Step::Damaged { edits: record.edit(TWO, field, number), call: ASK_SECOND });
@@ -192,8 +221,8 @@ fn lengths(take: Take) {
         [
             Call::Cell { station: n, element: 0, slot: 0 },
             Call::Day { station: n },
-            Call::File { text: text.clone() },
-            Call::Bulletin { text },
+            file(text.clone()),
+            bulletin(text),
             Call::Settle { station: n },
             Call::Open(Opening { year: 2024, month: 4, day: 11, stations, rows }),
         ]
@@ -222,7 +251,7 @@ fn lengths(take: Take) {
 fn dates(take: Take) {
     let open =
         |year, month, day| Call::Open(Opening { year, month, day, stations: vec![STATION], rows: vec![0] });
-    let nil = |day: u32, hour: u32| Call::File { text: format!("AAXX {day:02}{hour:02}1 40001 NIL=").into() };
+    let nil = |day: u32, hour: u32| file(format!("AAXX {day:02}{hour:02}1 40001 NIL=").into());
     lend(take);
     for year in 1999..=2100 {
         for month in 0..=13 {
@@ -243,10 +272,9 @@ fn headings(take: Take) {
     lend(take);
     for number in 0..100_000 {
         let text = format!("AAXX {number:05} 40001 NIL=").into_bytes();
-        take(Step::Call(Call::File { text }));
+        take(Step::Call(file(text.clone())));
         if number % 7 == 0 {
-            let text = format!("AAXX {number:05} 40001 NIL=").into_bytes();
-            take(Step::Call(Call::Bulletin { text }));
+            take(Step::Call(bulletin(text)));
         }
     }
 }
@@ -434,7 +462,8 @@ fn other_numbers(take: Take) {
     let mut store = opened([2024, 4, 11], 0);
     // Heads and cells that hold numbers beyond the station's, and are sound.
     let block = store::block_mut(&mut store, 0);
-    (0..9).for_each(|slot| store::put_head(block, slot, Head { filed: 0, ir: 1, tr: 2, dd: 3 }));
+    let head = Head { filed: 1, ir: 1, tr: 2, dd: 3, rank: 4, spare: 0 };
+    (0..9).for_each(|slot| store::put_head(block, slot, head));
     let cell = |slot: usize, e: usize| Cell { state: 1, flag: 0, value: 256 + (9 * slot + e) as i16 };
     let sheet = std::array::from_fn(|slot| std::array::from_fn(|element| cell(slot, element)));
     store::put_raw(block, &sheet);
@@ -482,13 +511,10 @@ fn lists<'a>(words: &'a [&'a str], most: u32) -> impl Iterator<Item = Vec<&'a st
 /// A report and a bulletin with a byte replaced, put in or left out, and cut short.
 fn edits_of_texts(take: Take) {
     let report = b"\nAAXX 11061 40001 12360 62799 00120 10103 22212 /////\r333 10120 55300 60012 70000 60042 444 555 =";
-    let bulletin = b"\rAAXX\n 11061 40001 12360 62704= 40001 NIL=\r\n";
-    for (text, filed) in [(report.as_slice(), true), (bulletin.as_slice(), false)] {
+    let reports = b"\rAAXX\n 11061 40001 12360 62704= 40001 NIL=\r\n";
+    for (text, call) in [(report.as_slice(), file as fn(_) -> _), (reports, bulletin)] {
         lend(take);
-        let mut make = |text: Vec<u8>| {
-            let call = if filed { Call::File { text } } else { Call::Bulletin { text } };
-            take(Step::Damaged { edits: head(0, FILED, 0), call });
-        };
+        let mut make = |text: Vec<u8>| take(Step::Damaged { edits: head(0, FILED, 0), call: call(text) });
         for at in 0..=text.len() {
             let (before, after) = text.split_at(at);
             make(before.to_vec());
@@ -505,8 +531,8 @@ fn edits_of_texts(take: Take) {
         text[..18].copy_from_slice(b"AAXX 11061 40001 N");
         text.splice(17..20, *b"NIL");
         text[len - 1] = b'=';
-        take(Step::Call(Call::File { text: text.clone() }));
-        take(Step::Call(Call::Bulletin { text }));
+        take(Step::Call(file(text.clone())));
+        take(Step::Call(bulletin(text)));
     }
 }
 

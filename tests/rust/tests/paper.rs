@@ -5,6 +5,7 @@ use reading::dayline::DayLines;
 use reading::generate::{episode, no_entries, Call, Step};
 use reading::reference::calendar::Date;
 use reading::reference::layout::{self, block_at, entry_at, store_length, Field, Record};
+use reading::reference::store::Head;
 use reading::reference::{self, report, settle, store, values, vapour, Cell, Mean, Tally};
 
 fn opened(stations: &[u32]) -> Vec<u8> {
@@ -14,8 +15,13 @@ fn opened(stations: &[u32]) -> Vec<u8> {
 }
 
 /// The refusal's number, or 0.
+fn file_at(store: &mut [u8], text: &str, rank: u32) -> u32 {
+    reference::file(store, text.as_bytes(), rank).map_or_else(|refusal| refusal.number(), |()| 0)
+}
+
+/// An ordinary report.
 fn file(store: &mut [u8], text: &str) -> u32 {
-    reference::file(store, text.as_bytes()).map_or_else(|refusal| refusal.number(), |()| 0)
+    file_at(store, text, 0)
 }
 
 /// A settled store whose slots 0, 1, .. have these groups after Nddff.
@@ -255,13 +261,13 @@ fn examples_at_the_gate() {
 
 #[test]
 fn bulletins() {
-    let refused = |text: &[u8]| reference::bulletin(&mut opened(&[40001]), text).unwrap_err().number();
+    let refused = |text: &[u8]| reference::bulletin(&mut opened(&[40001]), text, 0).unwrap_err().number();
     let tally = |text: &str| {
         let Tally { accepted, refused } =
-            reference::bulletin(&mut opened(&[40001]), text.as_bytes()).unwrap();
+            reference::bulletin(&mut opened(&[40001]), text.as_bytes(), 0).unwrap();
         (accepted, refused)
     };
-    assert_eq!(reference::bulletin(&mut [], b"").unwrap_err().number(), 9);
+    assert_eq!(reference::bulletin(&mut [], b"", 0).unwrap_err().number(), 9);
     assert_eq!((refused(b""), refused(&[b' '; 16385]), refused(&[b' '; 16384])), (1, 1, 3));
     assert_eq!(
         (refused(b"AAXX"), refused(b"AAXX=11061"), refused(b"AAXX 1106=1"), refused(b"aaxx 11061")),
@@ -274,6 +280,173 @@ fn bulletins() {
     );
     assert_eq!(tally("\nAAXX\r11071 40001 NIL=40001 NIL= 40001"), (0, 3));
     assert_eq!(tally("AAXX 11061 40001  NIL =40001 12360 62704=40001 12360 62704==x"), (2, 3));
+}
+
+/// For slot 0: two reports that differ in all that they leave, and NIL.
+const FIRST: &str = "AAXX 11061 00001 12360 62704 10103 20071 40132 60042 333 10120 20080=";
+const SECOND: &str = "AAXX 11064 00001 /1456 81312 11012 29080 69901 333 10095=";
+const NIL: &str = "AAXX 11061 00001 NIL=";
+
+/// A store whose slot 0 has the first report, at this rank.
+fn filed_at(rank: u32) -> Vec<u8> {
+    let mut store = opened(&[1]);
+    assert_eq!(file_at(&mut store, FIRST, rank), 0);
+    store
+}
+
+/// "The slot head grows by a rank byte and a zero byte, so a block has 702 bytes and a store 16 + 710n."
+#[test]
+fn lengths_with_ranks() {
+    assert_eq!(layout::BLOCK, 702);
+    for n in 1..=32 {
+        assert_eq!(store_length(n), 16 + 710 * n);
+    }
+    let head = |store: &[u8]| store::head(store::block(store, 0), 0);
+    assert_eq!(head(&opened(&[1])), Head { filed: 0, ir: 5, tr: 0, dd: 100, rank: 0, spare: 0 });
+    for rank in 0..=24 {
+        let filed = Head { filed: 1, ir: 1, tr: 2, dd: 27, rank, spare: 0 };
+        assert_eq!(head(&filed_at(rank.into())), filed);
+    }
+}
+
+/// "A higher rank replaces the whole slot, head and raw cells, and clears settled. An equal rank is filed already."
+/// Letters may be skipped; an unfiled slot takes any rank up to 24.
+#[test]
+fn each_rank_after_each() {
+    for (one, other) in (0..=24).flat_map(|one| (0..=25).map(move |other| (one, other))) {
+        let mut store = filed_at(one);
+        reference::settle(&mut store, 1).unwrap();
+        let (before, line) = (store.clone(), reference::day(&store, 1).unwrap());
+        let number = file_at(&mut store, SECOND, other);
+        if other <= one || other == 25 {
+            assert_eq!(number, if other == one { 8 } else { 13 }, "{one} {other}");
+            assert_eq!(store, before, "{one} {other}");
+            assert_eq!(reference::day(&store, 1), Ok(line));
+            continue;
+        }
+        assert_eq!(number, 0, "{one} {other}");
+        // Head and raw cells as the report alone leaves them; the checked cells stay.
+        let mut alone = opened(&[1]);
+        assert_eq!(file_at(&mut alone, SECOND, other), 0);
+        let checked = store::checked_sheet(store::block(&before, 0));
+        store::put_checked(store::block_mut(&mut alone, 0), &checked);
+        assert_eq!(store, alone, "{one} {other}");
+        assert_eq!(reference::day(&store, 1).unwrap_err().number(), 11);
+    }
+}
+
+/// "NIL changes nothing at any rank up to 24 and is not compared with the slot's."
+#[test]
+fn nil_at_each_rank() {
+    let filed = (0..=24).map(filed_at);
+    for mut store in filed.chain([opened(&[1])]) {
+        reference::settle(&mut store, 1).unwrap();
+        let before = store.clone();
+        for rank in (0..=26).chain([255, 256, u32::MAX]) {
+            assert_eq!(file_at(&mut store, NIL, rank), if rank > 24 { 13 } else { 0 }, "{rank}");
+            assert_eq!(store, before);
+        }
+    }
+}
+
+/// "Above 24 is tested right after 9, below the slot's just before 8."
+#[test]
+fn ranks_in_the_order_of_tests() {
+    let texts = [
+        (1, "AAXX"),
+        (1, ""),
+        (2, "aaxx="),
+        (3, "="),
+        (4, "AAXX 11062 00001 NIL="),
+        (5, "AAXX 11061="),
+        (6, "AAXX 11061 00002 12360 62704="),
+        (7, "AAXX 11071 00001 12360 62704="),
+    ];
+    let mut store = filed_at(3);
+    let before = store.clone();
+    for (number, text) in texts {
+        for rank in 0..=24 {
+            assert_eq!(file_at(&mut store, text, rank), number, "{text} {rank}");
+        }
+        for rank in [25, 256, 1 << 16, u32::MAX] {
+            assert_eq!(file_at(&mut store, text, rank), 13, "{text} {rank}");
+            assert_eq!(file_at(&mut [], text, rank), 9, "{text} {rank}");
+        }
+    }
+    assert_eq!([0, 2, 3].map(|rank| file_at(&mut store, SECOND, rank)), [13, 13, 8]);
+    // 256 and 2^16 + 4 would be 0 and 4 in a byte.
+    assert_eq!([25, 256, (1 << 16) + 4, u32::MAX].map(|rank| file_at(&mut store, SECOND, rank)), [13; 4]);
+    assert_eq!(store, before);
+}
+
+/// "Bulletins take one rank for all their reports"; above 24 they are refused whole, right after 9.
+#[test]
+fn bulletins_at_a_rank() {
+    let number = |store: &mut [u8], text: &str, rank: u32| {
+        reference::bulletin(store, text.as_bytes(), rank).unwrap_err().number()
+    };
+    for text in ["", "AAXX", "AAXX 11062", "AAXX 11061 00001 NIL="] {
+        assert_eq!(number(&mut opened(&[1]), text, 25), 13, "{text}");
+        assert_eq!(number(&mut [], text, u32::MAX), 9, "{text}");
+    }
+    let numbers = ["", "AAXX", "AAXX 11062"].map(|text| number(&mut opened(&[1]), text, 24));
+    assert_eq!(numbers, [1, 3, 4]);
+    // Station 1 has rank 3 in its slot, station 2 none.
+    let text = "AAXX 11061 00001 12360 62704=00002 12360 62704=00001 NIL=";
+    for (rank, accepted, of_first) in [(0, 2, 3), (2, 2, 3), (3, 2, 3), (4, 3, 4), (24, 3, 24)] {
+        let mut store = opened(&[1, 2]);
+        assert_eq!(file_at(&mut store, FIRST, 3), 0);
+        let tally = reference::bulletin(&mut store, text.as_bytes(), rank).unwrap();
+        assert_eq!(tally, Tally { accepted, refused: 3 - accepted }, "{rank}");
+        let ranks = [0, 1].map(|index| u32::from(store::head(store::block(&store, index), 0).rank));
+        assert_eq!(ranks, [of_first, rank]);
+        // The same again: only NIL is accepted.
+        let tally = reference::bulletin(&mut store, text.as_bytes(), rank).unwrap();
+        assert_eq!(tally, Tally { accepted: 1, refused: 2 }, "{rank}");
+    }
+}
+
+/// Two runs with the same calls for a station, ranks included, answer them alike, whatever comes for another. A text names
+/// its station at any rank.
+#[test]
+fn runs_with_ranks() {
+    let calls = [
+        (FIRST, 2),
+        (SECOND, 25),
+        (SECOND, 1),
+        (NIL, 0),
+        (SECOND, 5),
+        (FIRST, 5),
+        (NIL, u32::MAX),
+        (FIRST, 24),
+    ];
+    let run = |stations: &[u32], others: &[(&str, u32)]| {
+        let mut store = opened(stations);
+        let mut answers = Vec::new();
+        for (text, rank) in calls {
+            for (text, rank) in others {
+                file_at(&mut store, text, *rank);
+            }
+            answers.push(file_at(&mut store, text, rank));
+        }
+        let n = stations.len();
+        let entry = store[entry_at(0)..entry_at(1)].to_vec();
+        (answers, entry, store[block_at(n, 0)..block_at(n, 1)].to_vec())
+    };
+    let alone = run(&[1], &[]);
+    assert_eq!(alone.0, [0, 13, 13, 0, 0, 8, 13, 0]);
+    let second = FIRST.replace("00001", "00002");
+    for rank in [0, 3, 24, 25, u32::MAX] {
+        assert_eq!(run(&[1, 2], &[(&second, rank), (&second, 1)]), alone);
+    }
+}
+
+/// `dayline` files at rank 0: the same report again is refused.
+#[test]
+fn the_printed_day_knows_no_rank() {
+    let mut lines = DayLines::default();
+    lines.feed(format!("2024 4 11 1 0\n{FIRST}{FIRST}{SECOND}\n").as_bytes());
+    assert!(lines.finish().ends_with("refused 2\n"));
 }
 
 #[test]
@@ -367,6 +540,13 @@ fn what_is_sound() {
             check(head, layout::IR, &[0, 4, 5], &[6, 255]);
             check(head, layout::TR, &[0, 1, 9], &[10, 255]);
             check(head, layout::DD, &[0, 1, 36, 99, 100], &[37, 98, 101, 255]);
+            check(head, layout::SPARE, &[0], &[1, 100, 255]);
+            for (filed, ranks) in [(0, 0..=0), (1, 0..=24)] {
+                for rank in 0..=255 {
+                    let numbers = [(layout::FILED, filed), (layout::RANK, rank)];
+                    assert_eq!(sound_with(head, &numbers), ranks.contains(&rank), "{head:?} {filed} {rank}");
+                }
+            }
             let (raw, checked) =
                 (Record::Raw { index, element: slot, slot }, Record::Checked { index, element: slot, slot });
             for (cell, states, flags) in [(raw, 0..=1, 0..=0), (checked, 0..=3, 0..=4)] {

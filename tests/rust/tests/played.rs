@@ -3,8 +3,8 @@
 use reading::calls::{Calls, Reference};
 use reading::played::{crc32, play};
 
-/// Those of the state after S-2.
-const CALLS: &str = include_str!("../data/calls-02.txt");
+/// Those of the state after S-3.
+const CALLS: &str = include_str!("../data/calls-03.txt");
 
 fn plays(calls: &dyn Calls) {
     let (lines, differences) = play(calls, CALLS);
@@ -39,6 +39,8 @@ fn differences_are_told() {
     assert_eq!(differing(&format!("new 3 1 > - {zeros}")), 1);
     assert_eq!(differing(&format!("new 3 0 > - {zeros}\nday 1 > refused 6 {zeros}")), 1);
     assert_eq!(differing(&format!("new 3 0 > - {zeros}\nsettle > refused 9 {zeros}")), 1);
+    assert_eq!(differing(&format!("new 3 0 > - {zeros}\nfile - 0 > refused 9 {zeros}")), 0);
+    assert_eq!(differing(&format!("new 3 0 > - {zeros}\nfile - > refused 9 {zeros}")), 1);
     assert_eq!(differing(&format!("new 3 0 > - {zeros}\nwrite 1 6162 > - {}", crc(b"\0ab"))), 0);
     assert_eq!(differing(&format!("new 3 0 > - {zeros}\nwrite 2 6162 > - {zeros}")), 1);
 }

@@ -23,7 +23,7 @@ holds : (c : tie.After-put)
 holds c = holds-more _ _ (c .put .ensures) (holds-more _ _ (c .before .before .before .squeeze .ensures) (c .before .before .before .before .before .begin .ensures))
 
 good : (c : tie.After-put) → Good (c .before .before .before .before .before .before .before .before .args .store .now)
-good c = record { sound = c .before .before .before .before .before .before .before .before .pre; bytes = record { each = λ k. omega (arith, c .before .before .before .before .before .before .before .slice-known .given k) } }
+good c = record { sound = c .before .before .before .before .before .before .before .before .pre .0; bytes = record { each = λ k. omega (arith, c .before .before .before .before .before .before .before .slice-known .given k) } }
 
 part-file-in-end : tie.Need-part-file-in-end
 part-file-in-end c = holds (c .before .before .before) .upto
@@ -34,14 +34,14 @@ file-in-requires c κs = good (c .before .before .before .before)
 returns : tie.Need-returns
 returns c =
     let k = c .before .before .before .before .before .before .before .before .before in
-    filed _ _ _ (good k) _ (front (k .put .last .0) (k .put .result) _ (search needs) (holds k)) _ _ true
+    filed _ (k .before .before .before .before .before .before .before .before .pre .1) _ _ _ (good k) _ (front (k .put .last .0) (k .put .result) _ (search needs) (holds k)) _ _ true
     (sym (ap (λ (r : Reply). isAccepted (reply r)) (c .enum-told .given .1)))
     (c .before .before .before .before .file-in .ensures)
 
 returns-2 : tie.Need-returns-2
 returns-2 c =
     let k = c .before .before .before .before .before .before .before .before .before in
-    filed _ _ _ (good k) _ (front (k .put .last .0) (k .put .result) _ (search needs) (holds k)) _ _ false
+    filed _ (k .before .before .before .before .before .before .before .before .pre .1) _ _ _ (good k) _ (front (k .put .last .0) (k .put .result) _ (search needs) (holds k)) _ _ false
     (sym (ap (λ (r : Reply). isAccepted (reply r)) (c .enum-told2 .given .1)))
     (c .before .before .before .before .file-in .ensures)
 

@@ -16,16 +16,16 @@ use Rattle.bulletin.proofs.one_if.Reads as one-if-reads
 use Rattle.bulletin.proofs.one_unless.Reads as one-unless-reads
 
 abbrev Inv-loop : tie.InvT-loop
-Inv-loop store₀ text at a b c d e i₀ end₀ accepted₀ refused₀ store i end accepted refused = Filing (heading a b c d e) text at store₀ i end accepted refused store
+Inv-loop store₀ text at rank a b c d e i₀ end₀ accepted₀ refused₀ store i end accepted refused = Filing rank (heading a b c d e) text at store₀ i end accepted refused store
 
 abbrev μ-loop : tie.MeasureT-loop
-μ-loop store₀ text at a b c d e i₀ end₀ accepted₀ refused₀ store i end accepted refused = length text - end
+μ-loop store₀ text at rank a b c d e i₀ end₀ accepted₀ refused₀ store i end accepted refused = length text - end
 
 find-requires : tie.Need-find-requires Inv-loop μ-loop
 find-requires c κs = c .before .before .pre .upto
 
 loop-holds : tie.Need-loop-holds Inv-loop μ-loop
-loop-holds c = filing-none _ _ _ _ _ (c .before .before .before .pre .sound) (c .find .ensures)
+loop-holds c = filing-none _ _ _ _ _ _ (c .before .before .before .pre .sound) (c .find .ensures)
 
 sub-file-report : tie.Need-sub-file-report Inv-loop μ-loop
 sub-file-report c = c .before .before .loop .inv .next .from
@@ -37,7 +37,7 @@ part-file-report-end : tie.Need-part-file-report-end Inv-loop μ-loop
 part-file-report-end c = c .before .before .loop .inv .next .upto
 
 file-report-requires : tie.Need-file-report-requires Inv-loop μ-loop
-file-report-requires c κs = c .before .before .before .loop .inv .sound
+file-report-requires c κs = (c .before .before .before .loop .inv .sound, c .before .before .before .before .before .before .before .pre .ranked)
 
 one-if-requires : tie.Need-one-if-requires Inv-loop μ-loop
 one-if-requires c κs = search needs

@@ -21,8 +21,8 @@ read-requires c κs = search needs
 enum-known-n : tie.Need-enum-known-n
 enum-known-n c = search needs
 
-cast-t10 : tie.Need-cast-t10
-cast-t10 c = search needs
+cast-t11 : tie.Need-cast-t11
+cast-t11 c = search needs
 
 enum-known-h : tie.Need-enum-known-h
 enum-known-h c = search needs
@@ -38,24 +38,27 @@ file-whole-requires c κs = search needs
 
 returns : tie.Need-returns
 returns c =
-    let s = (c .before .before .before .before .before .before .args .store .now) in
-    Filed.did-as (ap (λ (r : Report). asked (askFile r) (decode s) s) (sym (c .before .before .before .read .ensures) ∙ ap meaning (c .before .n .given .1))) (record { answer = refl; left = refl })
+    let s = c .before .before .before .before .before .before .args .store .now in
+    let rank = c .before .before .before .before .before .before .args .rank in
+    Filed.did-as (ap (λ (r : Report). asked (askFile rank r) (decode s) s) (sym (c .before .before .before .read .ensures) ∙ ap meaning (c .before .n .given .1))) (record { answer = refl; left = refl })
 
 same-length : tie.Need-same-length
 same-length c = search needs
 
 returns-2 : tie.Need-returns-2
 returns-2 c =
-    let s = (c .before .before .before .before .before .before .before .before .args .store .now) in
-    Filed.did-as (ap (λ (r : Report). asked (askFile r) (decode s) s) (sym (c .before .before .before .before .before .read .ensures) ∙ ap meaning (c .before .before .before .h .given .1))) (c .file-nil .ensures)
+    let s = c .before .before .before .before .before .before .before .before .args .store .now in
+    let rank = c .before .before .before .before .before .before .before .before .args .rank in
+    Filed.did-as (ap (λ (r : Report). asked (askFile rank r) (decode s) s) (sym (c .before .before .before .before .before .read .ensures) ∙ ap meaning (c .before .before .before .h .given .1))) (c .file-nil .ensures rank)
 
 same-length-2 : tie.Need-same-length-2
 same-length-2 c = search needs
 
 returns-3 : tie.Need-returns-3
 returns-3 c =
-    let s = (c .before .before .before .before .before .before .before .before .before .before .args .store .now) in
-    Filed.did-as (ap (λ (r : Report). asked (askFile r) (decode s) s) (sym (c .before .before .before .before .before .before .before .read .ensures) ∙ ap meaning (c .before .before .before .before .before .h2 .given .1))) (c .before .before .file-whole .ensures)
+    let s = c .before .before .before .before .before .before .before .before .before .before .args .store .now in
+    let rank = c .before .before .before .before .before .before .before .before .before .before .args .rank in
+    Filed.did-as (ap (λ (r : Report). asked (askFile rank r) (decode s) s) (sym (c .before .before .before .before .before .before .before .read .ensures) ∙ ap meaning (c .before .before .before .before .before .h2 .given .1))) (c .before .before .file-whole .ensures)
 
 pub file-in-spec : {M : Type 1} → statement M
 file-in-spec =
@@ -63,7 +66,7 @@ file-in-spec =
     (tie.spec
     read-requires
     enum-known-n
-    cast-t10
+    cast-t11
     enum-known-h
     file-nil-requires
     enum-known-h-2

@@ -3,6 +3,8 @@
 use Rattle.rules.specs.Step.{after}
 use Rattle.rules.specs.Rules.{Effect, nilIn, rule}
 use Rattle.rules.specs.Calls.{takeNil}
+use Rattle.calendar.specs.declared.Slot.{Slot}
+use Rattle.store_layout.specs.Model.{stationAt}
 use Rattle.store_layout.specs.Layout.{decode}
 use mathlib.Core.Path.{_≡_, refl, sym, _∙_, ap, ap₂, subst}
 use Rattle.engine_filing.proofs.Filed as Filed
@@ -38,24 +40,25 @@ nil-in-requires : tie.Need-nil-in-requires
 nil-in-requires c κs = search needs
 
 returns : tie.Need-returns
-returns c = absurd (Locations.not-placed (indexIn (numbers (decode (c .before .before .before .before .args .store .now))) (c .before .before .before .before .args .h .station)) (sym (sym (c .before .before .find .ensures) ∙ c .enum-told .given .1)))
+returns c = λ rank. absurd (Locations.not-placed (indexIn (numbers (decode (c .before .before .before .before .args .store .now))) (c .before .before .before .before .args .h .station)) (sym (sym (c .before .before .find .ensures) ∙ c .enum-told .given .1)))
 
 returns-2 : tie.Need-returns-2
-returns-2 c =
+returns-2 c = λ rank.
     let o = c .before .before .before .before .args in
     let s = o .store .now in
     let h = o .h in
-    Filed.did-as (Outcomes.asked-none (decode s) s (h .station) (takeNil (h .day) (h .hour)) (Locations.placed-same (indexIn (numbers (decode s)) (h .station)) nowhere (sym (c .before .before .find .ensures) ∙ c .enum-told2 .given .1))) (record { answer = refl; left = refl })
+    Filed.did-as (Outcomes.asked-none (decode s) s (h .station) (takeNil (h .day) (h .hour) rank) (Locations.placed-same (indexIn (numbers (decode s)) (h .station)) nowhere (sym (c .before .before .find .ensures) ∙ c .enum-told2 .given .1))) (record { answer = refl; left = refl })
 
 returns-3 : tie.Need-returns-3
 unfolding rule
-returns-3 c =
+returns-3 c = λ rank.
     let s = (c .before .before .before .before .before .before .args .store .now) in
     let h = c .before .before .before .before .before .before .args .h in
     let i = c .before .before .enum-told3 .given .0 .0 in
+    let t = stationAt (decode s .stations) i in
     Filed.did-as
-    (Outcomes.asked-at (decode s) s (h .station) (takeNil (h .day) (h .hour)) i (Locations.placed-same (indexIn (numbers (decode s)) (h .station)) (index i) (sym (c .before .before .before .before .find .ensures) ∙ c .before .before .enum-told3 .given .1))
-    ∙ ap (λ (d : Effect). after d i (decode s) s) (sym (c .nil-in .ensures ∙ ap nilIn (c .before .slot-in .ensures))))
+    (Outcomes.asked-at (decode s) s (h .station) (takeNil (h .day) (h .hour) rank) i (Locations.placed-same (indexIn (numbers (decode s)) (h .station)) (index i) (sym (c .before .before .before .before .find .ensures) ∙ c .before .before .enum-told3 .given .1))
+    ∙ ap (λ (d : Effect). after d i (decode s) s) (sym (c .nil-in .ensures rank t ∙ ap (λ (k : Slot). nilIn k rank t) (c .before .slot-in .ensures))))
     (record { answer = refl; left = refl })
 
 pub file-nil-spec : {M : Type 1} → statement M

@@ -59,7 +59,7 @@ returns-2 c =
     let o = c .before .before .before .before .before .args in
     let s = o .store .now in
     let h = o .h in
-    Filed.did-as (Outcomes.asked-none (decode s) s (h .station) (take (h .day) (h .hour) (o .head) (listed (o .values))) (Locations.placed-same (indexIn (numbers (decode s)) (h .station)) nowhere (sym (c .before .before .find .ensures) ∙ c .enum-told2 .given .1))) (record { answer = refl; left = refl })
+    Filed.did-as (Outcomes.asked-none (decode s) s (h .station) (take (h .day) (h .hour) (o .rank) (o .head) (listed (o .values))) (Locations.placed-same (indexIn (numbers (decode s)) (h .station)) nowhere (sym (c .before .before .find .ensures) ∙ c .enum-told2 .given .1))) (record { answer = refl; left = refl })
 
 same-length-3 : tie.Need-same-length-3
 same-length-3 c = search needs
@@ -72,8 +72,8 @@ returns-3 c =
     let h = o .h in
     let i = c .before .before .before .before .before .before .before .index .given .0 .0 in
     Filed.did-as
-    (Outcomes.asked-at (decode s) s (h .station) (take (h .day) (h .hour) (o .head) (listed (o .values))) i (Locations.placed-same (indexIn (numbers (decode s)) (h .station)) (index i) (sym (c .before .before .before .before .before .before .before .before .before .find .ensures) ∙ c .before .before .before .before .before .before .before .index .given .1))
-    ∙ ap (λ (x : Slot). after (fileIn x (o .head) (listed (o .values)) (stationAt (decode s .stations) i)) i (decode s) s) (sym (c .before .before .before .before .slot-in .ensures)))
+    (Outcomes.asked-at (decode s) s (h .station) (take (h .day) (h .hour) (o .rank) (o .head) (listed (o .values))) i (Locations.placed-same (indexIn (numbers (decode s)) (h .station)) (index i) (sym (c .before .before .before .before .before .before .before .before .before .find .ensures) ∙ c .before .before .before .before .before .before .before .index .given .1))
+    ∙ ap (λ (x : Slot). after (fileIn x (o .rank) (o .head) (listed (o .values)) (stationAt (decode s .stations) i)) i (decode s) s) (sym (c .before .before .before .before .slot-in .ensures)))
     (c .before .before .file-there .ensures)
 
 pub file-whole-spec : {M : Type 1} → statement M

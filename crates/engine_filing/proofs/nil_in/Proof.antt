@@ -14,10 +14,10 @@ enum-told-2 : tie.Need-enum-told-2
 enum-told-2 c = search needs
 
 returns : tie.Need-returns
-returns c = rw (c .enum-told .given .1)
+returns c = λ rank t. rw (c .enum-told .given .1)
 
 returns-2 : tie.Need-returns-2
-returns-2 c = rw (c .enum-told2 .given .1)
+returns-2 c = λ rank t. rw (c .enum-told2 .given .1)
 
 pub nil-in-spec : {M : Type 1} → statement M
 nil-in-spec = tie.close (tie.spec enum-told enum-told-2 returns returns-2)

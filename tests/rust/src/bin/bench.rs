@@ -4,6 +4,7 @@
 
 use reading::calls::{Calls, Engine, Reference};
 use reading::reference::layout::store_length;
+use reading::reference::store::ORDINARY;
 use reading::reference::vapour;
 use std::hint::black_box;
 use std::time::Instant;
@@ -140,7 +141,7 @@ fn works() -> Vec<Work> {
     let mut opened = vec![0; store_length(STATIONS as usize)];
     assert_eq!(Reference.open(&mut opened, year, month, day, &stations, &[0; STATIONS as usize]), 0);
     let mut filed = opened.clone();
-    assert!(reports.iter().all(|text| Reference.file(&mut filed, text) == 0));
+    assert!(reports.iter().all(|text| Reference.file(&mut filed, text, ORDINARY) == 0));
     let mut settled = filed.clone();
     assert!(stations.iter().all(|&station| Reference.settle(&mut settled, station) == 0));
     let bytes: usize = reports.iter().map(Vec::len).sum();
@@ -155,7 +156,7 @@ fn works() -> Vec<Work> {
             units: 288,
             store: opened.clone(),
             run: Box::new(move |calls, store| {
-                reports.iter().map(|text| u64::from(calls.file(store, text))).sum()
+                reports.iter().map(|text| u64::from(calls.file(store, text, ORDINARY))).sum()
             }),
         },
         Work {
@@ -167,7 +168,7 @@ fn works() -> Vec<Work> {
                 let mut counts = [0; 2];
                 let mut sum = 0;
                 for text in &bulletins {
-                    sum += u64::from(calls.bulletin(store, text, &mut counts));
+                    sum += u64::from(calls.bulletin(store, text, ORDINARY, &mut counts));
                     sum += u64::from(counts[0]) + 1000 * u64::from(counts[1]);
                 }
                 sum

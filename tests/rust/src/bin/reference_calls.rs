@@ -44,7 +44,10 @@ fn call(store: &mut [u8], word: &str, arguments: &str) -> String {
             let rows: Vec<u16> = n[3..].iter().skip(1).step_by(2).map(|&row| row as u16).collect();
             accepted(reference::open(store, n[0], n[1], n[2], &stations, &rows))
         }
-        "file" => accepted(reference::file(store, arguments.as_bytes())),
+        "file" => {
+            let (rank, text) = arguments.split_once(' ').unwrap_or((arguments, ""));
+            accepted(reference::file(store, text.as_bytes(), numbers(rank)[0]))
+        }
         "settle" => accepted(reference::settle(store, numbers(arguments)[0])),
         "cell" => {
             let n = numbers(arguments);

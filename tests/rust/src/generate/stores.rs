@@ -7,9 +7,9 @@ use crate::reference::calendar::Date;
 pub use crate::reference::layout::Edits;
 use crate::reference::layout::{block_at, entry_at, store_length, Record};
 use crate::reference::layout::{
-    BLOCK, ENTRY, FLAG, HEADER, HEADER_FIELDS, N, NUMBER, RAW, STATE, STATION, VALUE,
+    BLOCK, ENTRY, FILED, FLAG, HEADER, HEADER_FIELDS, N, NUMBER, RANK, RAW, SPARE, STATE, STATION, VALUE,
 };
-use crate::reference::store::{self, can_open, Cell, Head, Sheet, D, HUMIDITY, READ, T};
+use crate::reference::store::{self, can_open, Cell, Head, Sheet, D, HIGHEST_RANK, HUMIDITY, READ, T};
 
 /// The arguments of an open call but its buffer.
 #[derive(Clone, Debug)]
@@ -181,7 +181,10 @@ pub fn hand_made(rng: &mut Rng, opening: &Opening) -> Vec<u8> {
 fn any_head(rng: &mut Rng) -> Head {
     let tr = if rng.chance(80) { rng.pick(&[1, 1, 2, 4]) } else { rng.below(10) as u8 };
     let dd = if rng.chance(30) { rng.pick(&[0, 99, 100]) } else { rng.below(37) as u8 };
-    Head { filed: rng.below(2) as u8, ir: rng.below(6) as u8, tr, dd }
+    let filed = rng.below(2) as u8;
+    let any_rank = rng.below(HIGHEST_RANK as usize + 1) as u8;
+    let rank = filed * rng.pick(&[0, 0, 1, 2, HIGHEST_RANK as u8, any_rank, any_rank]);
+    Head { filed, ir: rng.below(6) as u8, tr, dd, rank, spare: 0 }
 }
 
 /// 81 cells; flags and states above 1 only where cells may be mended.
@@ -276,13 +279,14 @@ pub fn any_edits(rng: &mut Rng, n: usize) -> Edits {
     }
     let entry = Record::Entry { index: rng.below(n) };
     let cell = any_cell(rng, n);
-    match rng.below(7) {
+    match rng.below(9) {
         0 => entry.edit(n, NUMBER, rng.pick(&[0, 1, 99999, 100000, 1 << 16, 1 << 17, u32::MAX])),
         1 => {
             let number = rng.pick(&[0, 1, 2, 12, 13, 28, 29, 30, 31, 32, 33, 1999, 2000, 2099, 2100]);
             Record::Header.edit(n, rng.pick(HEADER_FIELDS), number)
         }
         2 | 3 => humidity_edits(rng, n),
+        4 | 5 => rank_edits(rng, n),
         _ => {
             let value: i32 = rng.pick(&[-32768, -32768, -32767, 0, 1]);
             let mut edits = cell.edit(n, VALUE, value as u32);
@@ -309,6 +313,21 @@ fn humidity_edits(rng: &mut Rng, n: usize) -> Edits {
     edits.extend(cell.edit(n, VALUE, value as u32));
     if rng.chance(40) {
         edits.extend(cell.edit(n, FLAG, rng.pick(&[0, 0, 1, 4, 5])));
+    }
+    edits
+}
+
+/// A rank in a filed or unfiled slot, at times one that it may not have, or a spare byte.
+fn rank_edits(rng: &mut Rng, n: usize) -> Edits {
+    let head = Record::Head { index: rng.below(n), slot: rng.below(9) };
+    if rng.chance(20) {
+        return head.edit(n, SPARE, rng.pick(&[0, 1, 36, 100, 255]));
+    }
+    let any_rank = rng.below(HIGHEST_RANK as usize + 1) as u32;
+    let rank = rng.pick(&[0, 1, any_rank, any_rank, HIGHEST_RANK, HIGHEST_RANK + 1, HIGHEST_RANK + 1, 255]);
+    let mut edits = head.edit(n, RANK, rank);
+    if rng.chance(80) {
+        edits.extend(head.edit(n, FILED, rng.pick(&[0, 1, 1])));
     }
     edits
 }
@@ -340,7 +359,7 @@ fn any_byte(rng: &mut Rng) -> u8 {
     match rng.below(4) {
         0 => rng.next_u64() as u8,
         1 => rng.pick(&[0, 1]),
-        _ => rng.pick(&[2, 3, 4, 5, 6, 9, 10, 36, 37, 98, 99, 100, 101, 127, 128, 255]),
+        _ => rng.pick(&[2, 3, 4, 5, 6, 9, 10, 24, 25, 36, 37, 98, 99, 100, 101, 127, 128, 255]),
     }
 }
 

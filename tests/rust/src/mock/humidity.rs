@@ -10,13 +10,7 @@ use crate::reference::{report, values, vapour};
 /// On the raw cells of a report that was accepted.
 pub fn filed(store: &mut [u8], text: &[u8]) {
     let (true, Ok(report)) = (fault(20) || fault(21), report::read(text)) else { return };
-    let (Some(found), Ok(index), Some(slot)) = (
-        report.observation,
-        store::find(store, report.station),
-        store::date(store).slot(report.yy, report.gg),
-    ) else {
-        return;
-    };
+    let (Ok((index, slot)), Some(found)) = (report.place(store), report.observation) else { return };
     if fault(20) && found.section1[2] == Some(b"29101") {
         let cell = Record::Raw { index, element: D, slot };
         set(store, cell, STATE, HUMIDITY.into());

@@ -12,15 +12,15 @@ pub struct Tally {
 
 const LONGEST: usize = 16384;
 
-/// Files the reports of a bulletin, in order, in a sound store.
-pub fn file_all(store: &mut [u8], text: &[u8]) -> Result<Tally, Refusal> {
+/// Files the reports of a bulletin, in order and all at one rank, in a sound store.
+pub fn file_all(store: &mut [u8], text: &[u8], rank: u8) -> Result<Tally, Refusal> {
     if text.is_empty() || text.len() > LONGEST {
         return Err(Refusal::Length);
     }
     let (time, mut rest) = heading(text)?;
     let mut tally = Tally::default();
     while let Some(end) = rest.iter().position(|&byte| byte == b'=') {
-        match file_piece(store, time, &rest[..end]) {
+        match file_piece(store, time, &rest[..end], rank) {
             Ok(()) => tally.accepted += 1,
             Err(_) => tally.refused += 1,
         }
@@ -52,7 +52,7 @@ fn next_group(text: &[u8]) -> (&[u8], &[u8]) {
 }
 
 /// Files one report: its groups behind the heading, one space between groups and none before `=`.
-fn file_piece(store: &mut [u8], time: &[u8], piece: &[u8]) -> Result<(), Refusal> {
+fn file_piece(store: &mut [u8], time: &[u8], piece: &[u8], rank: u8) -> Result<(), Refusal> {
     let mut whole = Whole { bytes: [0; 512], len: 0 };
     whole.push(b"AAXX ")?;
     whole.push(time)?;
@@ -61,7 +61,7 @@ fn file_piece(store: &mut [u8], time: &[u8], piece: &[u8]) -> Result<(), Refusal
         whole.push(group)?;
     }
     whole.push(b"=")?;
-    report::file(store, &whole.bytes[..whole.len])
+    report::file(store, &whole.bytes[..whole.len], rank)
 }
 
 /// A rebuilt report; longer than 512 bytes it is refused 1.

@@ -17,7 +17,7 @@ pub enum Refusal {
     NoStation = 6,
     /// 7: no such slot.
     NoSlot = 7,
-    /// 8: slot filed already.
+    /// 8: slot filed already, at the same rank.
     Filed = 8,
     /// 9: unsound store.
     Unsound = 9,
@@ -27,6 +27,8 @@ pub enum Refusal {
     NotSettled = 11,
     /// 12: element or slot above 8.
     NoSuchCell = 12,
+    /// 13: a rank above 24 or below the slot's (document 02, S-3).
+    Rank = 13,
 }
 
 impl Refusal {

@@ -1,9 +1,11 @@
 //! Where things lie in the store, in bytes, and its fields by name. No other file knows a position or a length.
 
+use super::store::HIGHEST_RANK;
+
 /// The header, a station's entry, a slot's head, a cell.
 pub const HEADER: usize = 16;
 pub const ENTRY: usize = 8;
-pub const HEAD: usize = 4;
+pub const HEAD: usize = 6;
 pub const CELL: usize = 4;
 
 /// In a station's block, after its nine heads, the raw and the checked cells, 81 each; and the block.
@@ -14,7 +16,7 @@ pub const BLOCK: usize = CHECKED + 81 * CELL;
 /// What a station adds to the length of a store.
 pub const STATION: usize = ENTRY + BLOCK;
 
-/// The length of a store of n stations: 16 + 692n.
+/// The length of a store of n stations: 16 + 710n.
 pub const fn store_length(n: usize) -> usize {
     block_at(n, n)
 }
@@ -84,7 +86,10 @@ pub const FILED: Field = field("filed", 0, 1, &[1]);
 pub const IR: Field = field("iR", 1, 1, &[5]);
 pub const TR: Field = field("tR", 2, 1, &[9]);
 pub const DD: Field = field("dd", 3, 1, &[36, 99, 100]);
-pub const HEAD_FIELDS: &[Field] = &[FILED, IR, TR, DD];
+/// With S-3 of document 02, and after it a byte that is 0.
+pub const RANK: Field = field("rank", 4, 1, &[HIGHEST_RANK]);
+pub const SPARE: Field = field("spare", 5, 1, &[]);
+pub const HEAD_FIELDS: &[Field] = &[FILED, IR, TR, DD, RANK, SPARE];
 
 pub const STATE: Field = field("state", 0, 1, &[1, 3, 4]);
 pub const FLAG: Field = field("flag", 1, 1, &[4]);

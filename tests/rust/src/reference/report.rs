@@ -1,8 +1,9 @@
-//! "A report": checks 1 to 5 in order, then filing.
+//! "A report": checks 1 to 5 in order, then filing at a rank (document 02, S-3).
 
 use super::gate::Refusal;
-use super::store::{self, Cell, Head};
+use super::store::{self, Cell, Head, HIGHEST_RANK};
 use super::values;
+use std::cmp::Ordering;
 
 /// A group of five characters, digits or `/`.
 pub type Group<'a> = &'a [u8; 5];
@@ -15,6 +16,15 @@ pub struct Report<'a> {
     pub station: u32,
     /// None where the report is NIL.
     pub observation: Option<Observation<'a>>,
+}
+
+impl Report<'_> {
+    /// The station's index in a sound store, and the slot: checks 6 and 7.
+    pub fn place(&self, store: &[u8]) -> Result<(usize, usize), Refusal> {
+        let index = store::find(store, self.station)?;
+        let slot = store::date(store).slot(self.yy, self.gg).ok_or(Refusal::NoSlot)?;
+        Ok((index, slot))
+    }
 }
 
 /// The groups that a value is read from.
@@ -40,20 +50,34 @@ pub fn groups(text: &[u8]) -> impl Iterator<Item = &[u8]> {
     text.split(|&byte| is_blank(byte)).filter(|group| !group.is_empty())
 }
 
-/// Files a report in a sound store: checks 1 to 8, then the slot's head and raw cells.
-pub fn file(store: &mut [u8], text: &[u8]) -> Result<(), Refusal> {
+/// The rank that a call gives, not above 24.
+pub fn rank(number: u32) -> Result<u8, Refusal> {
+    if number > HIGHEST_RANK {
+        return Err(Refusal::Rank);
+    }
+    Ok(number as u8)
+}
+
+/// Files a report in a sound store: checks 1 to 7, the rank against the slot's, then the slot's head and raw cells.
+pub fn file(store: &mut [u8], text: &[u8], rank: u8) -> Result<(), Refusal> {
     let report = read(text)?;
-    let index = store::find(store, report.station)?;
-    let slot = store::date(store).slot(report.yy, report.gg).ok_or(Refusal::NoSlot)?;
+    let (index, slot) = report.place(store)?;
     let Some(observation) = report.observation else { return Ok(()) };
     let block = store::block_mut(store, index);
-    if store::head(block, slot).filed == 1 {
-        return Err(Refusal::Filed);
-    }
-    let (head, cells): (Head, [Cell; 9]) = values::slot(report.iw, &observation);
+    check_rank(store::head(block, slot), rank)?;
+    let (head, cells): (Head, [Cell; 9]) = values::slot(report.iw, &observation, rank);
     store::put_slot(block, slot, head, &cells);
     store::set_settled(store, index, 0);
     Ok(())
+}
+
+/// A rank below the slot's is 13, an equal one in a filed slot 8. An unfiled slot, whose rank is 0, takes any.
+fn check_rank(slot: Head, rank: u8) -> Result<(), Refusal> {
+    match rank.cmp(&slot.rank) {
+        Ordering::Less => Err(Refusal::Rank),
+        Ordering::Equal if slot.filed == 1 => Err(Refusal::Filed),
+        _ => Ok(()),
+    }
 }
 
 /// Checks 1 to 5.

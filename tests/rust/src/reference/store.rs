@@ -29,6 +29,10 @@ pub const FILLED: u8 = 3;
 /// A humidity in percent, in D's cell (document 02, S-2).
 pub const HUMIDITY: u8 = 4;
 
+/// Ranks of a report: an ordinary one's, then 1 to 24 for CCA to CCX (document 02, S-3).
+pub const ORDINARY: u32 = 0;
+pub const HIGHEST_RANK: u32 = 24;
+
 #[derive(Clone, Copy, Debug, PartialEq, Eq)]
 pub struct Cell {
     pub state: u8,
@@ -82,17 +86,21 @@ pub struct Head {
     pub ir: u8,
     pub tr: u8,
     pub dd: u8,
+    /// The filed report's (document 02, S-3).
+    pub rank: u8,
+    /// The zero byte.
+    pub spare: u8,
 }
 
 impl Head {
-    const UNFILED: Head = Head { filed: 0, ir: 5, tr: 0, dd: 100 };
+    pub const UNFILED: Head = Head { filed: 0, ir: 5, tr: 0, dd: 100, rank: 0, spare: 0 };
 
-    fn from_bytes(b: [u8; HEAD]) -> Head {
-        Head { filed: b[0], ir: b[1], tr: b[2], dd: b[3] }
+    fn from_bytes([filed, ir, tr, dd, rank, spare]: [u8; HEAD]) -> Head {
+        Head { filed, ir, tr, dd, rank, spare }
     }
 
-    pub fn to_bytes(self) -> [u8; HEAD] {
-        [self.filed, self.ir, self.tr, self.dd]
+    fn to_bytes(self) -> [u8; HEAD] {
+        [self.filed, self.ir, self.tr, self.dd, self.rank, self.spare]
     }
 }
 
@@ -112,8 +120,9 @@ fn put_u16(bytes: &mut [u8], at: usize, number: u16) {
     bytes[at..at + 2].copy_from_slice(&number.to_be_bytes());
 }
 
-fn four(bytes: &[u8], at: usize) -> [u8; 4] {
-    [bytes[at], bytes[at + 1], bytes[at + 2], bytes[at + 3]]
+/// The N bytes from a place on.
+fn array<const N: usize>(bytes: &[u8], at: usize) -> [u8; N] {
+    std::array::from_fn(|i| bytes[at + i])
 }
 
 // ---- Soundness ----
@@ -159,7 +168,7 @@ fn sound_entries(entries: &[u8]) -> bool {
 }
 
 fn sound_block(block: &[u8]) -> bool {
-    block[..RAW].chunks_exact(HEAD).all(|b| sound_head(Head::from_bytes(four(b, 0))))
+    block[..RAW].chunks_exact(HEAD).all(|b| sound_head(Head::from_bytes(array(b, 0))))
         && sound_cells(&block[RAW..CHECKED], sound_raw)
         && sound_cells(&block[CHECKED..], sound_checked)
 }
@@ -168,14 +177,19 @@ fn sound_block(block: &[u8]) -> bool {
 fn sound_cells(bytes: &[u8], sound: impl Fn(Cell) -> bool) -> bool {
     bytes.chunks_exact(9 * CELL).all(|slot| {
         (0..9).all(|element| {
-            let cell = Cell::from_bytes(four(slot, CELL * element));
+            let cell = Cell::from_bytes(array(slot, CELL * element));
             sound(cell) && (cell.state != HUMIDITY || element == D)
         })
     })
 }
 
 fn sound_head(head: Head) -> bool {
-    head.filed <= 1 && head.ir <= 5 && head.tr <= 9 && (head.dd <= 36 || head.dd == 99 || head.dd == 100)
+    head.filed <= 1
+        && head.ir <= 5
+        && head.tr <= 9
+        && (head.dd <= 36 || head.dd == 99 || head.dd == 100)
+        && u32::from(head.rank) <= if head.filed == 0 { 0 } else { HIGHEST_RANK }
+        && head.spare == 0
 }
 
 fn sound_raw(cell: Cell) -> bool {
@@ -307,7 +321,7 @@ pub fn block_mut(store: &mut [u8], index: usize) -> &mut [u8] {
 }
 
 pub fn head(block: &[u8], slot: usize) -> Head {
-    Head::from_bytes(four(block, head_at(slot)))
+    Head::from_bytes(array(block, head_at(slot)))
 }
 
 #[inline]
@@ -325,7 +339,7 @@ pub fn put_slot(block: &mut [u8], slot: usize, head: Head, cells: &[Cell; 9]) {
 }
 
 pub fn checked_cell(block: &[u8], element: usize, slot: usize) -> Cell {
-    Cell::from_bytes(four(block, checked_at(element, slot)))
+    Cell::from_bytes(array(block, checked_at(element, slot)))
 }
 
 pub fn raw_sheet(block: &[u8]) -> Sheet {
@@ -339,7 +353,7 @@ pub fn checked_sheet(block: &[u8]) -> Sheet {
 fn sheet(bytes: &[u8]) -> Sheet {
     let mut sheet = [[Cell::MISSING; 9]; 9];
     for (cell, bytes) in sheet.as_flattened_mut().iter_mut().zip(bytes.chunks_exact(CELL)) {
-        *cell = Cell::from_bytes(four(bytes, 0));
+        *cell = Cell::from_bytes(array(bytes, 0));
     }
     sheet
 }

@@ -8,14 +8,16 @@ pub fn number(digits: &[u8]) -> Option<i32> {
     digits.iter().try_fold(0, |sum, byte| byte.is_ascii_digit().then(|| 10 * sum + i32::from(byte - b'0')))
 }
 
-/// The head and the raw cells that an accepted report leaves.
-pub fn slot(iw: u8, report: &Observation) -> (Head, [Cell; 9]) {
+/// The head and the raw cells that an accepted report of a rank leaves.
+pub fn slot(iw: u8, report: &Observation, rank: u8) -> (Head, [Cell; 9]) {
     let rain = rain(report.section1[6].or(report.section3[6]));
     let head = Head {
         filed: 1,
         ir: rain_indicator(report.visibility),
         tr: rain.map_or(0, |(_, tr)| tr),
         dd: wind_direction(report.wind),
+        rank,
+        spare: 0,
     };
     let read = |value: Option<i32>| Cell::raw(value.map(|value| value as i16));
     let cells = [

@@ -14,7 +14,7 @@ abbrev Inv-loop : tie.InvT-loop
 Inv-loop line k words j₀ j = Unit {0}
 
 abbrev μ-loop : tie.MeasureT-loop
-μ-loop line k words j₀ j = 17 - j
+μ-loop line k words j₀ j = 19 - j
 
 loop-holds : tie.Need-loop-holds Inv-loop μ-loop
 loop-holds c = search needs
