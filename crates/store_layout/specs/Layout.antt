@@ -47,7 +47,7 @@ abbrev pub entryLength : ℕ
 entryLength = 8
 
 -- in a block: "nine slot heads of 4 bytes .., then 81 raw and 81 checked cells"; S-3: "The slot head grows by a rank byte .. and a zero byte".
--- In a head, after filed, iR, tR, dd, the rank and the zero byte
+-- A head begins with filed; where in it iR, tR, dd, the rank and the zero byte stand
 abbrev pub headLength : ℕ
 headLength = 6
 
@@ -66,7 +66,7 @@ rankIn = 4
 abbrev pub spareIn : ℕ
 spareIn = 5
 
--- in a cell, after its state, its flag and value
+-- a cell begins with its state; where in it the flag and the value stand
 abbrev pub cellLength : ℕ
 cellLength = 4
 
