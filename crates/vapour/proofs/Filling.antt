@@ -1,7 +1,8 @@
--- The generator: its two ways out, its answer under another name, and that the slice it fills equals the table, entry by entry.
+-- The generator: its two ways out, its answer under another name, and that the slice it fills equals the lookup, entry by entry.
 -- Assumes nothing.
 use mathlib.Core.Path.{_≡_, refl, sym, _∙_, ap}
 use mathlib.Core.List.{List}
+use mathlib.Core.Option.{Option, some}
 use Prim.Native.Nat.{ℕ, _≤_, _<_}
 use native.Mathlib.Decide.{ℕ-discrete}
 use native.Mathlib.Omega.{arith}
@@ -42,6 +43,6 @@ entries xs ys g = go (ℕ-discrete (length xs) places)
     go (yes e) = g .filled e .1
     go (no n) = absurd (never (g .left n .0))
 
--- what has the definition's entry at an index has what every filled slice has there
-pub entry-by-entry : (i n : ℕ) → i < places → n ≡ entry (subℕ i 500) → AsFilled i n
-entry-by-entry i n l e xs ys g = entries xs ys g .each i l ∙ sym e
+-- what tells the definition's entry at an index tells what every filled slice has there
+pub entry-by-entry : (i : ℕ) (r : Option ℕ) → i < places → r ≡ some (entry (subℕ i 500)) → AsFilled i r
+entry-by-entry i r l e xs ys g = e ∙ ap some (sym (entries xs ys g .each i l))

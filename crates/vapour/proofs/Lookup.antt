@@ -3,14 +3,14 @@
 use mathlib.Core.Path.{_≡_, _∙_, ap}
 use mathlib.Core.Bool.{_&&_, cond}
 use mathlib.Core.Option.{Option, none, some}
-use Prim.Native.Nat.{ℕ, _+_, _-_, _≤_}
+use Prim.Native.Nat.{ℕ, _+_, _-_, _<_, _≤_}
 use native.Mathlib.Omega.{arith}
-use borrow.Author.Tests.{leb-true}
+use borrow.Author.Tests.{leb-true, le-leb}
 use lib.Dec.{leb}
 use lib.IntN.{subℕ}
 use Rattle.laws.specs.Offset.{value}
 use Rattle.laws.proofs.Bools.{Known, is-true, is-false, known}
-use Rattle.vapour.specs.Vapour.{entry, pressure}
+use Rattle.vapour.specs.Vapour.{places, entry, pressure}
 use Rattle.laws.proofs.Differences.{order, shift}
 
 -- the dew point from its index, n − 32268: −500 tenths is 32268 in offset binary
@@ -28,3 +28,9 @@ at-offset n = rw (order 32768 32268 n, order 32768 n 33268) (go (known (leb 3226
         cond (leb 32268 n && leb n 33268) (some (entry (value n))) none ≡ cond (leb 32268 n && leb n 33268) (some (entry (subℕ (n - 32268) 500))) none
     go (is-true e) = rw (index n (leb-true 32268 n e))
     go (is-false e) = rw e
+
+-- at the dew point of an index
+pub at-index : (i : ℕ) → i < places → pressure (value (32268 + i)) ≡ some (entry (subℕ i 500))
+at-index i l =
+    let e : 32268 + i - 32268 ≡ i = omega arith in
+    rw (at-offset (32268 + i), e, le-leb 32268 (32268 + i) (omega arith), le-leb (32268 + i) 33268 (omega arith))

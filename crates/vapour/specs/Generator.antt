@@ -2,6 +2,7 @@
 -- Assumes nothing.
 use mathlib.Core.Path.{_≡_}
 use mathlib.Core.List.{List}
+use mathlib.Core.Option.{Option, some}
 use Prim.Native.Nat.{ℕ}
 use lib.ListN.{length, getD}
 use Rattle.vapour.specs.Vapour.{places, Entries}
@@ -18,7 +19,7 @@ pub record Fills {A : Type 0} (full : A) (needs : ℕ → A) (xs : List ℕ) (r 
 abbrev pub Generated : List ℕ → Filling → List ℕ → Type 0
 Generated = Fills Filled LengthNeeded
 
--- "The filled slice equals the constant table entry by entry": n, the table's entry at the index i, is what every slice that is
--- filled has there. Whatever gives n, a constant or a lookup.
-abbrev pub AsFilled : ℕ → ℕ → Type 0
-AsFilled i n = (xs ys : List ℕ) → Generated xs Filled ys → getD ys i 0 ≡ n
+-- "S-1's slice is now shown equal to the lookup, entry by entry" (S-4): r, what the lookup tells at the dew point of the index i, is
+-- what every slice that is filled has there
+abbrev pub AsFilled : ℕ → Option ℕ → Type 0
+AsFilled i r = (xs ys : List ℕ) → Generated xs Filled ys → r ≡ some (getD ys i 0)

@@ -3,6 +3,7 @@
 
 mod humidity;
 mod rank;
+mod vapour;
 
 use crate::calls::{Calls, Reference};
 use crate::reference::layout::{Field, Record, ENTRY, FLAG, HEADER, SETTLED, STATE, ZERO};
@@ -13,7 +14,7 @@ use std::slice;
 use std::sync::atomic::{AtomicUsize, Ordering};
 
 /// What the mock can do wrong; the first is nothing.
-pub const FAULTS: [&str; 61] = [
+pub const FAULTS: [&str; 70] = [
     "no fault",
     "open leaves the last byte as it was",
     "a refused open writes a byte",
@@ -75,6 +76,15 @@ pub const FAULTS: [&str; 61] = [
     "a rank that skips letters is refused 13",
     "a free slot refuses a rank above 0",
     "a report that replaces empties the slot's checked cells",
+    "the vapour table's difference at 10.0 °C is one too high",
+    "the vapour table's difference at 49.3 °C is one too low",
+    "the sum for an entry begins at the next whole one",
+    "the sum for an entry has one difference too few",
+    "the sum for an entry has one difference too many",
+    "to a whole entry the differences before it are added",
+    "differences are looked for as if whole entries had one too",
+    "the vapour table's last whole entry is given at all places after it",
+    "the differences for an entry are summed up in a byte",
 ];
 
 static FAULT: AtomicUsize = AtomicUsize::new(0);
@@ -243,6 +253,7 @@ unsafe extern "C" fn esfenruk_day(
     }
     if number == 0 {
         humidity::day(store, station, means, numbers);
+        vapour::day(store, station, means, numbers);
     }
     number
 }

@@ -9,7 +9,7 @@ use crate::reference::calendar::Date;
 use crate::reference::layout::{self, field_at, stations_for, store_length, Record};
 use crate::reference::report::{self, groups, is_blank, Observation};
 use crate::reference::store::{self, Cell, D, HUMIDITY, T};
-use crate::reference::{values, vapour};
+use crate::reference::{day, values, vapour};
 use std::collections::BTreeMap;
 
 /// The rows: the answers of each call, then the rest.
@@ -104,6 +104,9 @@ pub const ROWS: &[(&str, &[u32])] = &[
     ("day: T at a humidity", &[0, 1, 2, 3, 4]),
     // Where D is there in all other slots of 0 to 7, so that the humidity alone decides on its mean.
     ("day: slot of the one humidity", &[0, 1, 2, 3, 4, 5, 6, 7, 8]),
+    // Of each entry in vapour's mean, from the whole one at or before it; then of those from the last whole one on.
+    ("day: places after a whole entry", first(16)),
+    ("day: places after the last whole entry", first(9)),
     ("day: rain", &[0, 1]),
     // 0 absent, else one more than the slot.
     ("day: warmest", &[0, 1, 2, 3, 4, 5, 6, 7, 8]),
@@ -174,6 +177,7 @@ impl Reached {
             (Call::Day { station }, 0) => {
                 self.day(answer);
                 self.humid_day(*station, store, answer);
+                self.vapour_day(*station, store, answer);
             }
             (Call::Bulletin { text, rank }, number) => {
                 self.bulletin(text, number, answer.counts);
@@ -370,6 +374,20 @@ impl Reached {
         if let [slot] = humid[..] {
             if (0..8).all(|other| other == slot || sheet[other][D].get().is_some()) {
                 self.add("day: slot of the one humidity", slot as u32);
+            }
+        }
+    }
+
+    /// A day whose vapour mean is there: where the table was looked up for it.
+    fn vapour_day(&mut self, station: u32, store: &[u8], answer: &Answer) {
+        let (Ok(index), 1..) = (store::find(store, station), answer.numbers[5]) else { return };
+        let sheet = store::checked_sheet(store::block(store, index));
+        let looked_up = sheet[..8].iter().map(|cells| day::vapour_pressure(cells).0.value.into());
+        for place in looked_up.filter_map(vapour::place) {
+            let (index, after) = (place / vapour::SPACING, (place % vapour::SPACING) as u32);
+            self.add("day: places after a whole entry", after);
+            if index == vapour::WHOLE.len() - 1 {
+                self.add("day: places after the last whole entry", after);
             }
         }
     }

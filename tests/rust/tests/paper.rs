@@ -201,6 +201,27 @@ fn the_vapour_table() {
     }
 }
 
+/// "Keep a whole entry every sixteen places and, between these, the one-byte difference of each entry from the one
+/// before it": 63 whole entries, at −500, −484, .. 492, and 938 differences, each 0 to 62.
+#[test]
+fn the_vapour_table_as_it_is_kept() {
+    assert_eq!((vapour::WHOLE.len(), vapour::DIFFERENCES.len()), (63, 938));
+    let (mut whole, mut differences) = (vapour::WHOLE.iter(), vapour::DIFFERENCES.iter());
+    let mut before = 0;
+    for (t, entry) in (-500..).zip(vapour_table()) {
+        if (-500..=492).step_by(16).any(|other| other == t) {
+            assert_eq!(whole.next(), Some(&entry), "{t}");
+        } else {
+            let difference = differences.next().map(|&difference| u16::from(difference));
+            assert_eq!(difference, Some(entry - before), "{t}");
+        }
+        before = entry;
+    }
+    assert_eq!((whole.len(), differences.len()), (0, 0));
+    let differences = vapour::DIFFERENCES.iter();
+    assert_eq!((differences.clone().min(), differences.max()), (Some(&0), Some(&62)));
+}
+
 #[test]
 fn another_length_is_left_as_it_was() {
     let entries = vapour_table();

@@ -3,7 +3,7 @@
 use reading::calls::{Calls, Reference};
 use reading::played::{crc32, play};
 
-/// Those of the state after S-3.
+/// Those of the state after S-3; of S-4 nothing shows.
 const CALLS: &str = include_str!("../data/calls-03.txt");
 
 fn plays(calls: &dyn Calls) {

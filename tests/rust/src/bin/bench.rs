@@ -1,5 +1,6 @@
-//! The benchmark: the engine and the plain Rust of this crate, which makes the same checks, on the
-//! same inputs. The two take turns, and the ratio is the median of the turns' ratios.
+//! The benchmark: the engine and the plain Rust of this crate, which makes the same checks and has the same two
+//! constants for the vapour table, on the same inputs. The two take turns, and the ratio is the median of the turns'
+//! ratios.
 //! bench [TURNS]
 
 use reading::calls::{Calls, Engine, Reference};
@@ -124,12 +125,51 @@ fn body(index: u32, slot: u32) -> String {
     )
 }
 
+fn report(index: u32, slot: u32) -> Vec<u8> {
+    format!("AAXX {} {}=", heading(slot), body(index, slot)).into_bytes()
+}
+
+/// A store of so many stations from an index on, with their day filed and settled.
+fn settled_store(first: u32, count: u32) -> Vec<u8> {
+    let [year, month, day] = DATE;
+    let stations: Vec<u32> = (first..first + count).map(station).collect();
+    let mut store = vec![0; store_length(stations.len())];
+    assert_eq!(Reference.open(&mut store, year, month, day, &stations, &vec![0; stations.len()]), 0);
+    for index in first..first + count {
+        assert!((0..9).all(|slot| Reference.file(&mut store, &report(index, slot), ORDINARY) == 0));
+    }
+    assert!(stations.iter().all(|&station| Reference.settle(&mut store, station) == 0));
+    store
+}
+
+/// The sum of what a day line answers.
+fn day_line(calls: &dyn Calls, store: &[u8], station: u32) -> u64 {
+    let (mut means, mut numbers) = ([0.0; 6], [0; 14]);
+    let number = calls.day(store, station, &mut means, &mut numbers);
+    u64::from(number) + ((means[0] + means[5]) * 8.0) as u64 + numbers[7] as u64 + numbers[10] as u64
+}
+
+/// The day lines of all stations, in stores of so many: there the soundness test takes less of the time.
+fn small_stores(name: &'static str, count: u32) -> Work {
+    let firsts = move || (0..STATIONS).step_by(count as usize);
+    Work {
+        name,
+        unit: "line",
+        units: STATIONS,
+        store: firsts().flat_map(|first| settled_store(first, count)).collect(),
+        run: Box::new(move |calls, stores| {
+            let stores = firsts().zip(stores.chunks(store_length(count as usize)));
+            stores
+                .flat_map(|(first, store)| {
+                    (first..first + count).map(move |i| day_line(calls, store, station(i)))
+                })
+                .sum()
+        }),
+    }
+}
+
 fn works() -> Vec<Work> {
-    let reports: Vec<Vec<u8>> = (0..9)
-        .flat_map(|slot| {
-            (0..STATIONS).map(move |i| format!("AAXX {} {}=", heading(slot), body(i, slot)).into_bytes())
-        })
-        .collect();
+    let reports: Vec<Vec<u8>> = (0..9).flat_map(|slot| (0..STATIONS).map(move |i| report(i, slot))).collect();
     let bulletins: Vec<Vec<u8>> = (0..9)
         .map(|slot| {
             let reports = (0..STATIONS).map(|i| format!("\r\n{}=", body(i, slot)));
@@ -142,8 +182,7 @@ fn works() -> Vec<Work> {
     assert_eq!(Reference.open(&mut opened, year, month, day, &stations, &[0; STATIONS as usize]), 0);
     let mut filed = opened.clone();
     assert!(reports.iter().all(|text| Reference.file(&mut filed, text, ORDINARY) == 0));
-    let mut settled = filed.clone();
-    assert!(stations.iter().all(|&station| Reference.settle(&mut settled, station) == 0));
+    let settled = settled_store(0, STATIONS);
     let bytes: usize = reports.iter().map(Vec::len).sum();
     println!("{} reports of {} bytes on average", reports.len(), bytes / reports.len());
 
@@ -189,15 +228,11 @@ fn works() -> Vec<Work> {
             units: 32,
             store: settled.clone(),
             run: Box::new(move |calls, store| {
-                let (mut means, mut numbers) = ([0.0; 6], [0; 14]);
-                let mut sum = 0;
-                for &station in &lines {
-                    sum += u64::from(calls.day(store, station, &mut means, &mut numbers));
-                    sum += ((means[0] + means[5]) * 8.0) as u64 + numbers[7] as u64 + numbers[10] as u64;
-                }
-                sum
+                lines.iter().map(|&station| day_line(calls, store, station)).sum()
             }),
         },
+        small_stores("the same, in stores of one station", 1),
+        small_stores("the same, in stores of two stations", 2),
         Work {
             name: "soundness alone, of 32 stations",
             unit: "test",

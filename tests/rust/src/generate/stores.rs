@@ -248,9 +248,10 @@ fn any_value(rng: &mut Rng) -> i32 {
     }
 }
 
-/// The same D, or T, in all slots, so that the mean of vapour pressure is one entry of the table, or a part of it.
+/// The same D, or T, in all slots, so that the mean of vapour pressure is one entry of the table, or a part of it; at
+/// times one of the last or beside them, which no settled report comes to.
 fn one_value(rng: &mut Rng, checked: &mut Sheet, element: usize) {
-    let value = rng.between(-502, 502) as i16;
+    let value = if rng.chance(20) { rng.between(490, 502) } else { rng.between(-502, 502) } as i16;
     for cells in checked {
         let state = cells[element].state.max(READ);
         cells[element] = Cell { state, value, ..cells[element] };

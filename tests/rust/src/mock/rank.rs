@@ -1,6 +1,6 @@
 //! Faults on ranks (document 02, S-3): each changes what is given to the reference, or what it left or answered.
 
-use super::{fault, set, FAULTS};
+use super::{fault, set};
 use crate::calls::{Calls, Reference};
 use crate::place::{place, reports, Place};
 use crate::reference::layout::{stations_for, Record, FILED, RANK, SETTLED, SPARE};
@@ -9,7 +9,7 @@ use std::iter::repeat;
 
 /// Any fault of this file, so that a store is looked at for those alone.
 fn any_fault() -> bool {
-    (34..FAULTS.len()).any(fault)
+    (34..61).any(fault)
 }
 
 /// Files a text.

@@ -37,7 +37,7 @@ pub fn day_line(block: &[u8]) -> DayLine {
 
 /// A slot's vapour pressure, with the cell that it is from: at the dew point or, where D's cell holds a humidity, so
 /// many hundredths of the pressure at T.
-fn vapour_pressure(cells: &[Cell; 9]) -> (Cell, Option<i32>) {
+pub fn vapour_pressure(cells: &[Cell; 9]) -> (Cell, Option<i32>) {
     let at = |cell: Cell| cell.get().and_then(vapour::pressure);
     match cells[D].humidity() {
         None => (cells[D], at(cells[D])),
