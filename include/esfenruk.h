@@ -22,7 +22,9 @@ uint32_t esfenruk_open(uint8_t *store, size_t store_length, uint32_t year, uint3
 
 /* Files a report at a rank: 0, or 9, 13 (the rank is above 24), 1 to 7, 13 (it is below that of the report in the slot), 8 (the
    slot is filed already with this rank). A higher rank replaces the slot, head and values, and the station is no longer settled.
-   NIL is accepted at any rank up to 24 and changes nothing. */
+   NIL is accepted at any rank up to 24 and changes nothing.
+   A report with iR 3 and no group 6 is a dry station's: R is 0, for 12 hours at slots 0, 4 and 8 and for 6 hours at slots 2
+   and 6, and missing at the others. In the day line a shower reported at slot 2 or 6 still counts. */
 uint32_t esfenruk_file(uint8_t *store, size_t store_length, const uint8_t *text, size_t text_length, uint32_t rank);
 
 /* Settles a station: 0, or 9, 6. */

@@ -14,7 +14,6 @@ use quality::column::at;
 use quality::column::discard;
 use quality::column::is_humidity;
 use quality::column::is_missing;
-use quality::column::put;
 use vapour::Pressure;
 
 // The cell at whose value the table is read: D's, or T's where D's is a humidity.
@@ -33,7 +32,9 @@ fn bases(t: Column, d: Column) -> Column
     let mut r = d;
     for k in 0..9 {
         let b = basis(at(t, k), at(d, k));
-        r = put(r, k, b);
+        r.values[k] = b.value;
+        r.states[k] = b.state;
+        r.flags[k] = b.flag;
     }
     r
 }
@@ -78,7 +79,9 @@ pub fn vapour_column(t: Column, d: Column) -> Column
     let mut r = b;
     for k in 0..9 {
         let x = vapour_cell(at(b, k), at(d, k), pressures[k]);
-        r = put(r, k, x);
+        r.values[k] = x.value;
+        r.states[k] = x.state;
+        r.flags[k] = x.flag;
     }
     r
 }

@@ -1,4 +1,5 @@
 // The day's rain from R and the slot heads.
+ghost use mathlib.Core.Bool.{cond};
 ghost use mathlib.Core.Path.{_≡_};
 ghost use Prim.Native.Nat.{_<_};
 ghost use Rattle.quality.specs.Coded.{cells};
@@ -19,13 +20,12 @@ struct Amount {
     offset: u32,
 }
 
-// tR of slot k.
-fn tr_at(heads: [SlotHead; 9], k: usize) -> u8
+// The head of slot k: its iR and tR.
+fn head_at(heads: [SlotHead; 9], k: usize) -> SlotHead
     requires { ⌜ k < 9 ⌝ }
-    ensures { λ r. ⌜ r ≡ Rule.tR heads k ⌝ }
+    ensures { λ r. ⌜ (r .ir ≡ Rule.iR heads k) × (r .tr ≡ Rule.tR heads k) ⌝ }
 {
-    let h = heads[k];
-    h.tr
+    heads[k]
 }
 
 // R of slot k.
@@ -54,20 +54,42 @@ fn together(a: Amount, b: Amount) -> Amount
     }
 }
 
-// A half of the day: the slot that ends it with tR 2, else that and the slot six hours before, both with tR 1.
+// The amount b that ends a dry half or, where that is 0, the amount a of six hours before.
+fn unless_nothing(a: Amount, b: Amount) -> Amount
+    requires { ⌜ Small 2 a ⌝ }
+    requires { ⌜ Small 2 b ⌝ }
+    ensures { λ r. ⌜ Stands 2 r (cond (Rule.isNothing (amountOf b)) (amountOf a) (amountOf b)) ⌝ }
+{
+    if b.missing {
+        return b;
+    }
+    if b.sum == b.offset {
+        return a;
+    }
+    b
+}
+
+// A half of the day: the slot that ends it with tR 2, else that and the slot six hours before, both with tR 1. Where the slot that ends it
+// has iR 3, R 0 and tR 2, a shower of six hours before still counts.
 fn half(heads: [SlotHead; 9], r: Column, first: usize, last: usize) -> Amount
     requires { ⌜ first < 9 ⌝ }
     requires { ⌜ last < 9 ⌝ }
     ensures { λ a. ⌜ Stands 2 a (Rule.half heads (cells r) first last) ⌝ }
 {
-    let before = tr_at(heads, first);
-    let end = tr_at(heads, last);
-    if end == 2 {
-        return amount_at(r, last);
+    let before = head_at(heads, first);
+    let end = head_at(heads, last);
+    let a = amount_at(r, first);
+    let b = amount_at(r, last);
+    if end.tr == 2 {
+        let dry = (end.ir == 3) & (before.tr == 1);
+        if dry {
+            return unless_nothing(a, b);
+        }
+        return b;
     }
-    let both = (before == 1) & (end == 1);
+    let both = (before.tr == 1) & (end.tr == 1);
     if both {
-        return together(amount_at(r, first), amount_at(r, last));
+        return together(a, b);
     }
     Amount {
         missing: true,
@@ -90,7 +112,8 @@ fn answer(a: Amount) -> Rain
 pub fn rain_total(heads: [SlotHead; 9], r: Column) -> Rain
     ensures { λ x. ⌜ x ≡ rainOf (Rule.rainTotal heads (cells r)) ⌝ }
 {
-    if tr_at(heads, 8) == 4 {
+    let end = head_at(heads, 8);
+    if end.tr == 4 {
         return answer(amount_at(r, 8));
     }
     answer(together(half(heads, r, 2, 4), half(heads, r, 6, 8)))

@@ -52,14 +52,6 @@ fn number(out: &mut [u8], at: usize, n: u64) -> usize
     decimal(out, m, n)
 }
 
-// What is absent, behind a space.
-fn absent(out: &mut [u8], at: usize) -> usize
-    ensures { λ r. ⌜ Adds (now (out .entry)) at (now (out .exit)) r (printed.field (45 ∷ [])) ⌝ }
-{
-    let m = put(out, at, b' ');
-    put(out, m, b'-')
-}
-
 // A signed number behind a space.
 fn signed(out: &mut [u8], at: usize, n: i32) -> usize
     ensures { λ r. ⌜ Adds (now (out .entry)) at (now (out .exit)) r (printed.field (printed.signed n)) ⌝ }
@@ -76,7 +68,7 @@ fn rain(out: &mut [u8], at: usize, r: Rain) -> usize
     ensures { λ n. ⌜ Adds (now (out .entry)) at (now (out .exit)) n (printed.field (printed.rain r)) ⌝ }
 {
     match r {
-        Rain::Absent => absent(out, at),
+        Rain::Absent => put_all(out, at, b" -"),
         Rain::Tenths(n) => signed(out, at, n),
     }
 }
@@ -85,7 +77,7 @@ fn slot(out: &mut [u8], at: usize, e: Extreme) -> usize
     ensures { λ r. ⌜ Adds (now (out .entry)) at (now (out .exit)) r (printed.field (printed.slot e)) ⌝ }
 {
     match e {
-        Extreme::Absent => absent(out, at),
+        Extreme::Absent => put_all(out, at, b" -"),
         Extreme::Slot(k) => number(out, at, k as u64),
     }
 }

@@ -1,115 +1,35 @@
 // Filing a report in a store that is known to be sound: in the slot of the station that it names.
 ghost use mathlib.Core.Path.{_≡_};
-ghost use mathlib.Core.List.{map};
 ghost use Prim.Native.Nat.{ℕ, _<_};
 ghost use Rattle.calendar.specs.Slots.{slotOf};
 ghost use lib.ListN.{length};
 ghost use Rattle.store_layout.specs.Model.{Station, stationAt};
 ghost use Rattle.store_layout.specs.Layout.{blockLength, countAt, word, decodeBlock, decode};
 ghost use Rattle.store_layout.specs.Updates.{withSlot};
-ghost use Rattle.synop_codes.specs.Value as codes;
-ghost use Rattle.quality.specs.Coded.{cell};
 ghost use Rattle.synop_contents.specs.Contents.{listed};
 ghost use Rattle.synop.specs.Report.{report};
 ghost use Rattle.rules.specs.Calls.{named, takeNil, take, askFile};
 ghost use Rattle.engine_answers.specs.Good.{Good};
 ghost use Rattle.engine_answers.specs.Replies.{reply, Did};
-ghost use Rattle.rules.specs.Rules.{keeps, makes, rawCell, filedHead, filedCells, filed, fileAt, nilIn, fileIn};
+ghost use Rattle.rules.specs.Rules.{keeps, makes, filedHead, filedCells, filed, fileAt, nilIn, fileIn};
 ghost use Rattle.rules.specs.Step.{after, asked};
 use calendar::Slot;
 use engine_answers::Reply;
-use quality::column::OffsetCell;
-use quality::head::SlotHead;
 use store_block::block::put_slot;
 use store_numbers::at::BLOCK_LENGTH;
 use store_soundness::find::Located;
 use synop::Report;
-use synop_codes::Moisture;
-use synop_codes::Value;
 use synop_contents::Identification;
 use synop_contents::Indicators;
 use synop_contents::Values;
-
-// A report's value as a raw cell.
-fn raw_cell(v: Value) -> OffsetCell
-    ensures { λ r. ⌜ cell r ≡ rawCell (codes.meaning v) ⌝ }
-{
-    match v {
-        Value::Missing => OffsetCell {
-            state: 0,
-            flag: 0,
-            value: 32768,
-        },
-        Value::Read(x) => OffsetCell {
-            state: 1,
-            flag: 0,
-            value: x,
-        },
-    }
-}
-
-// What group 2 gave as D's raw cell: a humidity has state 4.
-fn raw_moisture(m: Moisture) -> OffsetCell
-    ensures { λ r. ⌜ cell r ≡ rawCell (codes.moisture m) ⌝ }
-{
-    match m {
-        Moisture::Nothing => raw_cell(Value::Missing),
-        Moisture::DewPoint(x) => raw_cell(Value::Read(x)),
-        Moisture::Humidity(u) => OffsetCell {
-            state: 4,
-            flag: 0,
-            value: 32768 + u as u16,
-        },
-    }
-}
-
-// What filing a report of a rank in slot k puts there: the slot's head.
-fn slot_head(k: usize, rank: u8, indicators: Indicators) -> SlotHead
-    ensures { λ r. ⌜ r ≡ filedHead k rank indicators ⌝ }
-{
-    SlotHead {
-        filed: 1,
-        ir: indicators.rain_indicator,
-        tr: indicators.rain_duration,
-        dd: indicators.wind_direction,
-        rank: rank,
-        spare: 0,
-    }
-}
-
-// And its nine raw cells, in the elements' order.
-fn raw_cells(k: usize, indicators: Indicators, v: Values) -> [OffsetCell; 9]
-    ensures { λ r. ⌜ map cell r ≡ filedCells k indicators (listed v) ⌝ }
-{
-    let temperature = v.temperature;
-    let moisture = v.moisture;
-    let pressure = v.pressure;
-    let wind = v.wind;
-    let cloud = v.cloud;
-    let visibility = v.visibility;
-    let rain = v.rain;
-    let maximum = v.maximum;
-    let minimum = v.minimum;
-    [
-        raw_cell(temperature),
-        raw_moisture(moisture),
-        raw_cell(pressure),
-        raw_cell(wind),
-        raw_cell(cloud),
-        raw_cell(visibility),
-        raw_cell(rain),
-        raw_cell(maximum),
-        raw_cell(minimum),
-    ]
-}
 
 // A slot's head and raw cells replaced.
 fn put_report(block: &mut [u8], k: usize, rank: u8, head: Indicators, values: Values)
     requires { ⌜ (length (now block) ≡ blockLength) × (k < 9) ⌝ }
     ensures { λ _. ⌜ decodeBlock (now (block .exit)) ≡ withSlot k (filedHead k rank head) (filedCells k head (listed values)) (decodeBlock (now (block .entry))) ⌝ }
 {
-    let h = slot_head(k, rank, head);
-    put_slot(block, k, h, raw_cells(k, head, values));
+    let h = engine_slot::slot_head(k, rank, head);
+    put_slot(block, k, h, engine_slot::raw_cells(k, head, values));
 }
 
 // A report of a rank written to slot k of the station at an index, whatever the slot holds. The station is no longer settled.
@@ -150,11 +70,10 @@ fn file_at(
     if rank < old.rank {
         return Reply::Refused(13);
     }
-    if old.rank < rank {
-        return put_filed(store, index, k, rank, head, values);
-    }
-    if old.filed == 1 {
-        return Reply::Refused(8);
+    if rank <= old.rank {
+        if old.filed == 1 {
+            return Reply::Refused(8);
+        }
     }
     put_filed(store, index, k, rank, head, values)
 }

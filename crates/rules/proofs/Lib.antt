@@ -19,3 +19,4 @@ pub mod Examples
 pub mod FormExamples
 pub mod ProofTable
 pub mod Humidities
+pub mod DryDays

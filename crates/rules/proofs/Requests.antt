@@ -4,13 +4,14 @@
 --     all-lawful       all that a call can ask, where every report that passes fits
 -- Assumes nothing.
 use mathlib.Core.Path.{_≡_, refl, sym, subst}
-use mathlib.Core.Bool.{Bool, true, false, cond, _&&_}
-use mathlib.Core.List.{List, map}
-use Prim.Native.Nat.{ℕ, _≤_, _<_}
+use mathlib.Core.Bool.{Bool, true, false, cond, _&&_, _||_}
+use mathlib.Core.List.{List, [], _∷_, map}
+use Prim.Native.Nat.{ℕ, zero, suc, _≤_, _<_}
 use native.Mathlib.Omega.{arith}
 use borrow.Author.Tests.{leb-true}
-use lib.Dec.{ltb, eqb, lit≤}
-use lib.ListN.{getD, List·getD-map}
+use lib.Dec.{ltb, eqb, lit≤, lit<}
+use lib.ListN.{getD, set, List·getD-map}
+use Rattle.laws.proofs.Bools.{cond-keeps}
 use Rattle.calendar.specs.Slots.{slotOf}
 use Rattle.calendar.specs.declared.Slot.{Slot}
 use Rattle.calendar.specs.declared.Slot.the-variants.{At, Nothing}
@@ -19,12 +20,14 @@ use Rattle.store_layout.specs.Model.{Station, headOf}
 use Rattle.store_layout.specs.Valid.{ValidStation, isDirection, highestRank, isRank}
 use Rattle.store_layout.proofs.Validity.{head-whole, valid-marked, valid-with-slot}
 use Rattle.quality.specs.Cell.{none}
+use Rattle.quality.specs.Elements.{rain}
 use Rattle.quality.specs.Valid.{RawCell}
 use Rattle.quality.proofs.Validity.{cell-whole, none-valid, humidity-valid}
 use Rattle.synop.specs.Report.{Report, report}
 use Rattle.synop_contents.specs.declared.Indicators.{Indicators}
 use Rattle.synop_contents.specs.declared.Identification.{Identification}
 use Rattle.rules.specs.Calls.{Call, file, settle, cell, day, Answer, refused, Request, takeNil, take, settling, giveCell, giveDay, Ask, unnamed, named, denied, ask, askFile, deny}
+use Rattle.rules.specs.Dry.{isDry, dryDuration, filedDuration, filedValues}
 use Rattle.rules.specs.Rules.{Date, keeps, makes, rawCell, filedHead, filedCells, filed, fileAt, nilIn, fileIn, settledStation, rule}
 use Rattle.rules.proofs.Kept.{Kept, kept-block, Lawful, AllLawful}
 use Rattle.rules.proofs.Settling.{kept-settled}
@@ -75,6 +78,28 @@ valid-raw e (humidity u) w = subst (λ (d : ℕ). RawCell d (rawCell (humidity u
 raw-at : (values : List Value) (e : ℕ) → getD (map rawCell values) e none ≡ rawCell (getD values e missing)
 raw-at values e = List·getD-map rawCell values e missing
 
+-- S-5: what fits still fits as slot k gets it
+set-within : (values : List Value) (j : ℕ) (v : Value) (e : ℕ) (W : ℕ → Value → Type 0) → W j v → W e (getD values e missing)
+    → W e (getD (set values j v) e missing)
+set-within [] j v e W p q = q
+set-within (x ∷ values) zero v zero W p q = p
+set-within (x ∷ values) zero v (suc e) W p q = q
+set-within (x ∷ values) (suc j) v zero W p q = q
+set-within (x ∷ values) (suc j) v (suc e) W p q = set-within values j v e (λ n. W (suc n)) p q
+
+duration-fits : (k : ℕ) (h : Indicators) → h .«rain_duration» ≤ 9 → filedDuration k h ≤ 9
+duration-fits k h l =
+    let P : ℕ → Type 0 = λ n. n ≤ 9 in
+    cond-keeps P (isDry h)
+    (cond-keeps P (eqb k 0 || eqb k 4 || eqb k 8) (lit≤ tt) (cond-keeps P (eqb k 2 || eqb k 6) (lit≤ tt) (lit≤ tt))) l
+
+value-fits : (k : ℕ) (h : Indicators) (values : List Value) → ((e : ℕ) → e < 9 → Within e (getD values e missing)) → (e : ℕ) → e < 9
+    → Within e (getD (filedValues k h values) e missing)
+value-fits k h values f e l =
+    set-within values rain _ e Within
+    (cond-keeps (Within rain) (isDry h) (cond-keeps (Within rain) (eqb (dryDuration k) 0) tt (lit≤ tt)) (f rain (lit< tt)))
+    (f e l)
+
 module _ (rank : ℕ) (r : isRank rank ≡ true) (head : Indicators) (values : List Value) (f : Fits head values) where
   kept-filed : (k : ℕ) (t : Station) → ValidStation t → Kept t (filed k rank head values t)
   unfolding filed
@@ -86,13 +111,15 @@ module _ (rank : ℕ) (r : isRank rank ≡ true) (head : Indicators) (values : L
       (record {
         filed = lit≤ tt;
         ir = f .indicator;
-        tr = f .duration;
+        tr = duration-fits k head (f .duration);
         dd = f .direction;
         rank = leb-true rank highestRank r;
         unfiled = refl;
         spare = refl;
       }))
-      (λ e l. subst (RawCell e) (sym (raw-at values e)) (valid-raw e (getD values e missing) (f .value e l)))))
+      (λ e l.
+      subst (RawCell e) (sym (raw-at (filedValues k head values) e))
+      (valid-raw e (getD (filedValues k head values) e missing) (value-fits k head values (f .value) e l)))))
       (lit≤ tt)
 
   pub lawful-take : (yy gg : ℕ) → Lawful (take yy gg rank head values)

@@ -1,6 +1,7 @@
 -- The calls as rules: what a call asks of whom, what it does to that station, to the store, and to its bytes, whatever their form; runs
 -- of calls, and the isolation of stations (document 01, "Who names a station", "Numbers at the gate").
 pub mod Calls
+pub mod Dry
 pub mod Rules
 pub mod Reaction
 pub mod Step

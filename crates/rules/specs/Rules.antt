@@ -19,6 +19,7 @@ use Rattle.quality.specs.Elements.{column}
 use Rattle.quality.specs.Limits.{warm}
 use Rattle.quality.specs.Settled.{range, internal, time, fill}
 use Rattle.synop_contents.specs.declared.Indicators.{Indicators}
+use Rattle.rules.specs.Dry.{filedDuration, filedValues}
 use Rattle.rules.specs.Calls.{Answer, refused, accepted, aCell, aDay, Request, takeNil, take, settling, giveCell, giveDay}
 
 -- the date D
@@ -38,20 +39,20 @@ rawCell missing = none
 rawCell (read v) = record { state = 1; flag = 0; value = v }
 rawCell (humidity u) = record { state = 4; flag = 0; value = pos u }
 
--- what filing a report in slot k puts there, its head and its nine raw cells: the same in every slot
+-- what filing a report in slot k puts there, its head and its nine raw cells; S-5: the slot decides what the R of a dry station is
 abbrev pub filedHead : ℕ → ℕ → Indicators → SlotHead
 filedHead k rank h =
     record {
       filed = 1;
       ir = h .«rain_indicator»;
-      tr = h .«rain_duration»;
+      tr = filedDuration k h;
       dd = h .«wind_direction»;
       rank = rank;
       spare = 0;
     }
 
 abbrev pub filedCells : ℕ → Indicators → List Value → List Cell
-filedCells k h values = map rawCell values
+filedCells k h values = map rawCell (filedValues k h values)
 
 -- "Any other accepted report replaces the slot's head and raw cells and clears settled."
 unfoldable pub filed : ℕ → ℕ → Indicators → List Value → Station → Station

@@ -1,14 +1,16 @@
--- Laws of the parts: their numbers are below their count, and the first of three is the first of the first two and the third.
+-- Laws of the parts: their numbers are below their count, what stands in a 55 run is none that is read, and the first of three is the first of
+-- the first two and the third.
 -- Assumes nothing.
 use mathlib.Core.Path.{_≡_, refl}
 use mathlib.Core.Bool.{Bool, true, false, not, cond, _&&_}
 use Prim.Native.Nat.{ℕ, _<_}
 use lib.Dec.{eqb, lit<}
+use Rattle.laws.proofs.Bools.{cond-false, and-false-right}
 use Rattle.synop_text.specs.declared.Group.{Group}
 use Rattle.synop_text.specs.declared.Group.the-variants.{Other, Aaxx, Nil, Section, Five}
 use Rattle.synop_order.specs.declared.Place.{Place}
 use Rattle.synop_order.specs.declared.Place.the-variants.{Start, Letters, Time, Station, Nothing, Visibility, Wind, Gale, One, Later, Wrong}
-use Rattle.synop_contents.specs.Parts.{count, ofOne, ofThree, inThree, ofLater, partOf, firstOf}
+use Rattle.synop_contents.specs.Parts.{unread, count, ofOne, ofThree, inThree, ofLater, partOf, firstOf}
 
 either : (b : Bool) {m n : ℕ} → m < count → n < count → cond b m n < count
 either true h l = h
@@ -32,6 +34,11 @@ in-three-below (Five a b c d e) = three-below a
 later-below : (n : ℕ) (run : Bool) (g : Group) → ofLater n run g < count
 unfolding ofLater
 later-below n run g = either (eqb n 3 && not run) (in-three-below g) (lit< tt)
+
+-- "After a group beginning 55, groups with first character 0 to 6 are skipped": a 6 there is no R, and none that is present
+pub run-unread : (n : ℕ) (g : Group) → ofLater n true g ≡ unread
+unfolding ofLater
+run-unread n g = cond-false (eqb n 3 && false) (inThree g) unread (and-false-right (eqb n 3) false refl)
 
 pub part-below : (p : Place) (g : Group) → partOf p g < count
 part-below Start g = lit< tt

@@ -9,9 +9,8 @@ use test_cases::print::signed;
 use test_cases::print::text;
 use test_lines::fields::put;
 use test_lines::words;
-use test_lines::words::Kind;
-use test_lines::words::kind_of;
 use test_lines::words::number_of;
+use test_lines::words::which;
 
 fn said(r: Reply) {
     match r {
@@ -65,14 +64,14 @@ fn day(store: &[u8], station: u32) {
 
 // A line's call on a store of n stations; a, b and c are the numbers of all but `open`, `file` and `put`.
 pub fn call(store: &mut [u8], n: usize, l: &[u8], a: u32, b: u32, c: u32) {
-    match kind_of(l) {
-        Kind::Open => open(store, l),
-        Kind::File => file(store, l),
-        Kind::Settle => said(engine::settle(store, a)),
-        Kind::Cell => cell(store, a, b, c),
-        Kind::Element => element(store, a, b),
-        Kind::Day => day(store, a),
-        Kind::Put => put(store, n, l),
-        Kind::Other => text(b" no such call"),
+    match which(l, 0, b"open file settle cell element day put") {
+        0 => open(store, l),
+        1 => file(store, l),
+        2 => said(engine::settle(store, a)),
+        3 => cell(store, a, b, c),
+        4 => element(store, a, b),
+        5 => day(store, a),
+        6 => put(store, n, l),
+        _ => text(b" no such call"),
     }
 }

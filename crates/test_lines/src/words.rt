@@ -3,18 +3,6 @@ ghost use mathlib.Core.Path.{_≡_};
 ghost use Prim.Native.Nat.{_≤_};
 ghost use lib.ListN.{length};
 
-// The calls, and `put`.
-pub enum Kind {
-    Open,
-    File,
-    Settle,
-    Cell,
-    Element,
-    Day,
-    Put,
-    Other,
-}
-
 // The place of the first b at or after a place; the end where there is none.
 pub fn find(s: &[u8], b: u8, from: usize) -> usize
     requires { ⌜ from ≤ length (now s) ⌝ }
@@ -72,31 +60,6 @@ pub fn which(line: &[u8], k: usize, words: &[u8]) -> usize
         }
     }
     19
-}
-
-pub fn kind_of(line: &[u8]) -> Kind {
-    if is(line, 0, b"open") {
-        return Kind::Open;
-    }
-    if is(line, 0, b"file") {
-        return Kind::File;
-    }
-    if is(line, 0, b"settle") {
-        return Kind::Settle;
-    }
-    if is(line, 0, b"cell") {
-        return Kind::Cell;
-    }
-    if is(line, 0, b"element") {
-        return Kind::Element;
-    }
-    if is(line, 0, b"day") {
-        return Kind::Day;
-    }
-    if is(line, 0, b"put") {
-        return Kind::Put;
-    }
-    Kind::Other
 }
 
 // The k-th word as a number: 0 where there is none.

@@ -1,6 +1,6 @@
 // Reads texts from standard input, a line each, in which `~` stands for LF and `^` for CR, and writes a line for each: the number
-// that it is refused with; or `NIL`, its station, day and hour; or these with iR, tR, dd and T, D, P, W, C, V, R, X, M, `-` for a
-// missing one, and in the place of D a humidity with `%` after it.
+// that it is refused with; or `NIL`, its station, day and hour; or these with iR, tR (`-` where R is absent from the report), dd and T, D, P, W,
+// C, V, R, X, M, `-` for a missing one, and in the place of D a humidity with `%` after it.
 use synop::Report;
 use synop_codes::Moisture;
 use synop_codes::Value;
@@ -40,7 +40,11 @@ fn heading(h: Identification) {
 
 fn head(h: Indicators) {
     number(h.rain_indicator as u32);
-    number(h.rain_duration as u32);
+    if h.rain_sent {
+        number(h.rain_duration as u32);
+    } else {
+        io::write_all(1, b" -");
+    }
     number(h.wind_direction as u32);
 }
 

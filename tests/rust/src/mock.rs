@@ -1,6 +1,7 @@
 //! A stand-in for libesfenruk.a: the reference behind the same C names, right or with one fault, to see
 //! that the comparison notices.
 
+mod dry;
 mod humidity;
 mod rank;
 mod vapour;
@@ -14,7 +15,7 @@ use std::slice;
 use std::sync::atomic::{AtomicUsize, Ordering};
 
 /// What the mock can do wrong; the first is nothing.
-pub const FAULTS: [&str; 70] = [
+pub const FAULTS: [&str; 107] = [
     "no fault",
     "open leaves the last byte as it was",
     "a refused open writes a byte",
@@ -85,6 +86,43 @@ pub const FAULTS: [&str; 70] = [
     "differences are looked for as if whole entries had one too",
     "the vapour table's last whole entry is given at all places after it",
     "the differences for an entry are summed up in a byte",
+    "iR 3 wins over a group 6 whose value is missing",
+    "iR 3 wins over every group 6",
+    "section 3's group 6 is not looked at under iR 3",
+    "a 6 in a 55 run keeps a report from being dry",
+    "a 6 in section 2, 4 or 5 keeps a report from being dry",
+    "a dry slot 2 has tR 2",
+    "a dry slot 6 has tR 2",
+    "a dry slot 8 has tR 4",
+    "dry slots 0, 4 and 8 have tR 1",
+    "a dry report has tR 0",
+    "slot 0 is never dry",
+    "slots 1, 3, 5 and 7 can be dry",
+    "iR 4 is dry too",
+    "an iR other than 0 to 4 is dry too",
+    "a tR of / under iR 3 is taken from the slot",
+    "no report is dry",
+    "a dry R is 1",
+    "a dry report of a bulletin leaves R missing",
+    "a dry report of a file leaves R missing",
+    "a dry 0 has state 3",
+    "a dry 0 is suspect once settled",
+    "a shower six hours before a dry slot is lost",
+    "R discarded six hours before a dry slot is taken as 0",
+    "a half looks six hours back only to iR 3",
+    "under iR 3 and tR 2 a half is the sum of both slots",
+    "the second half alone looks six hours back",
+    "the first half alone looks six hours back",
+    "R above 0 under iR 3 and tR 2 gives way to R six hours before",
+    "R missing under iR 3 and tR 2 gives way to R six hours before",
+    "a half looks six hours back to the raw R",
+    "a half is dry by its raw R",
+    "a half is dry under any iR",
+    "a half is dry with any tR",
+    "a half looks six hours back to any tR",
+    "a half looks three hours back",
+    "a slot that was not filed ends no dry half",
+    "24 hours do not decide first over a dry slot 8",
 ];
 
 static FAULT: AtomicUsize = AtomicUsize::new(0);
@@ -169,6 +207,7 @@ unsafe extern "C" fn esfenruk_file(
     }
     if number == 0 {
         humidity::filed(store, text);
+        dry::filed(store, text, false);
     }
     number
 }
@@ -179,6 +218,7 @@ unsafe extern "C" fn esfenruk_settle(store: *mut u8, store_len: usize, station: 
     let number = Reference.settle(store, station);
     if number == 0 {
         humidity::settled(store, station);
+        dry::settled(store, station);
     }
     if fault(8) && number == 0 {
         let n = store::stations(store);
@@ -254,6 +294,7 @@ unsafe extern "C" fn esfenruk_day(
     if number == 0 {
         humidity::day(store, station, means, numbers);
         vapour::day(store, station, means, numbers);
+        dry::day(store, station, numbers);
     }
     number
 }
@@ -273,7 +314,8 @@ unsafe extern "C" fn esfenruk_bulletin(
     if fault(15) && text_len == 16384 {
         return 1;
     }
-    let number = rank::bulletin(store, text, rank, counts);
+    let number =
+        dry::bulletin(store, text, rank, counts).unwrap_or_else(|| rank::bulletin(store, text, rank, counts));
     if fault(14) && number == 0 && matches!(text.last(), Some(b' ' | b'\r' | b'\n')) {
         counts[1] += 1;
     }

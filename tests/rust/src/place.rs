@@ -31,6 +31,35 @@ pub fn place(store: &[u8], text: &[u8]) -> Option<Place> {
     })
 }
 
+/// A group after Nddff of a report that passes checks 1 to 5.
+pub struct Later<'a> {
+    pub group: &'a [u8],
+    /// The one that it stands in, or opens.
+    pub section: u32,
+    /// A 55 run skips it.
+    pub skipped: bool,
+}
+
+/// All of them.
+pub fn later_groups(text: &[u8]) -> impl Iterator<Item = Later<'_>> {
+    let (mut section, mut run) = (1, false);
+    groups(&text[..text.len() - 1]).skip(5).map(move |group| {
+        let opens = match group {
+            b"333" | b"444" | b"555" => true,
+            _ => section == 1 && group.starts_with(b"222"),
+        };
+        if opens {
+            section = (group[0] - b'0').into();
+        }
+        let among = !opens && section == 3;
+        let skipped = among && run && matches!(group[0], b'0'..=b'6');
+        if among {
+            run = (run || group.starts_with(b"55")) && !matches!(group[0], b'7'..=b'9');
+        }
+        Later { group, section, skipped }
+    })
+}
+
 /// The reports of a bulletin that end in `=`, each with the heading.
 pub fn reports(text: &[u8]) -> Vec<Vec<u8>> {
     let end = text.iter().rposition(|&byte| byte == b'=').unwrap_or(0);

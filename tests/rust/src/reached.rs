@@ -1,10 +1,12 @@
 //! What the calls of a run reached: every answer of every call, and the places where a rule turns.
 //! A row for each, with the numbers that must come up in it; one that never did shows as 0.
 
+mod dry;
 mod ranks;
 
 use crate::generate::stores::Opening;
 use crate::generate::{Answer, Call, Step};
+use crate::place::{later_groups, Later};
 use crate::reference::calendar::Date;
 use crate::reference::layout::{self, field_at, stations_for, store_length, Record};
 use crate::reference::report::{self, groups, is_blank, Observation};
@@ -61,6 +63,13 @@ pub const ROWS: &[(&str, &[u32])] = &[
     ("file: rank that replaced a lower one", first(25).split_at(1).1),
     ("file: letters skipped where replaced", &[0, 1, 2, 23]),
     ("file: replaced where settled was", &[0, 1]),
+    ("file: slot of a dry report", first(9)),
+    // At slots 0, 2, 4, 6 and 8.
+    ("file: iR without a group 6", first(6)),
+    // At these slots, as `dry::group_6` has them.
+    ("file: group 6 under iR 3", first(8)),
+    // 0 missing, 1 none, 2 some.
+    ("file: R that a dry report replaced", &[0, 1, 2]),
     ("T read", &[0, 1]),
     ("D read", &[0, 1, 4]),
     ("P read", &[0, 1]),
@@ -108,6 +117,12 @@ pub const ROWS: &[(&str, &[u32])] = &[
     ("day: places after a whole entry", first(16)),
     ("day: places after the last whole entry", first(9)),
     ("day: rain", &[0, 1]),
+    // With tR 2, where the other half is there, as `dry::ended` has them.
+    ("day: first half's end under iR 3", first(7)),
+    ("day: second half's end under iR 3", first(7)),
+    ("day: iR six hours before a dry end", first(6)),
+    // 0 over a dry slot 4 after a shower at slot 2, 1 over iR 3 and R 0 at slot 8 itself after one at slot 6.
+    ("day: 24 hours over dry slots", &[0, 1]),
     // 0 absent, else one more than the slot.
     ("day: warmest", &[0, 1, 2, 3, 4, 5, 6, 7, 8]),
     ("day: coldest", &[0, 1, 2, 3, 4, 5, 6, 7, 8]),
@@ -124,6 +139,9 @@ pub const ROWS: &[(&str, &[u32])] = &[
     ("bulletin: above 24, at 24 answered", &[0, 1, 3, 4]),
     // 0 free; filed: 1 replaced, 2 refused 8 at rank 0, 3 at a higher one, 4 refused 13, 5 NIL below its rank.
     ("bulletin: slot that a report met", &[0, 1, 2, 3, 4, 5]),
+    ("bulletin: slot of a dry report", first(9)),
+    ("bulletin: iR without a group 6", first(6)),
+    ("bulletin: group 6 under iR 3", first(8)),
     ("vapour_table: numbers lent", &[0, 1, 1000, 1001, 1002, 2002]),
 ];
 
@@ -137,7 +155,7 @@ const fn first(n: usize) -> &'static [u32] {
 /// Ranks above 24; the low bytes of some are not.
 const ABOVE_24: &[u32] = &[25, 26, 127, 128, 255, 256, 257, 1 << 16, 1 << 31, u32::MAX];
 
-const READ: usize = 40;
+const READ: usize = 44;
 const STATE: usize = READ + 9;
 const FLAG: usize = STATE + 9;
 const MEAN: usize = FLAG + 12;
@@ -171,12 +189,17 @@ impl Reached {
             (Call::File { text, rank }, number) => {
                 self.file(text, store, number);
                 self.file_at(text, *rank, before, number);
+                if number == 0 {
+                    self.rain_filed(dry::BY_FILE, text, store);
+                    self.dry_over(text, before, store);
+                }
             }
             (Call::Settle { station }, 0) => self.settle(*station, store),
             (Call::Cell { .. }, 0) => self.cell(answer),
             (Call::Day { station }, 0) => {
                 self.day(answer);
                 self.humid_day(*station, store, answer);
+                self.dry_day(*station, store);
                 self.vapour_day(*station, store, answer);
             }
             (Call::Bulletin { text, rank }, number) => {
@@ -295,25 +318,14 @@ impl Reached {
 
     /// The sections of an accepted report, and the groups of its 55 runs.
     fn sections(&mut self, text: &[u8]) {
-        let (mut section, mut run) = (1, false);
-        for group in groups(&text[..text.len() - 1]).skip(5) {
-            let opens = match group {
-                b"333" => Some(3),
-                b"444" => Some(4),
-                b"555" => Some(5),
-                _ => (section == 1 && group.starts_with(b"222")).then_some(2),
-            };
-            if let Some(opened) = opens {
-                section = opened;
+        let mut last = 1;
+        for Later { group, section, skipped } in later_groups(text) {
+            if section != last {
                 self.add("file: section", section);
-            } else if section == 3 {
-                match group[0] {
-                    b'7'..=b'9' => run = false,
-                    digit @ b'0'..=b'6' if run => {
-                        self.add("file: in a 55 run, first digit", (digit - b'0').into())
-                    }
-                    _ => run |= group.starts_with(b"55"),
-                }
+                last = section;
+            }
+            if skipped {
+                self.add("file: in a 55 run, first digit", (group[0] - b'0').into());
             }
         }
     }

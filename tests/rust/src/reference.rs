@@ -1,6 +1,6 @@
 //! The papers in plain Rust, section by section: document 01's calls on a lent buffer; of document 02, S-1
-//! (`vapour::fill`), which has no buffer of that kind, S-2, a humidity in D's cell, S-3, the ranks of reports, and S-4,
-//! the vapour table as whole entries and differences.
+//! (`vapour::fill`), which has no buffer of that kind, S-2, a humidity in D's cell, S-3, the ranks of reports, S-4, the
+//! vapour table as whole entries and differences, and S-5, dry stations.
 //!
 //! Written from the papers alone. Every call on a buffer but open tests the whole of it first, and a refused
 //! call writes nothing.

@@ -1,6 +1,7 @@
 //! All of a small set each, where a generated run takes samples: every value of a code, every byte of a
 //! store, every date, every short list of groups. The store is mostly that of 2024-04-11 and station 40001.
 
+mod dry;
 mod ranks;
 
 use crate::generate::stores::{fresh, Edits, Opening};
@@ -16,7 +17,7 @@ type Take<'a> = &'a mut dyn FnMut(Step);
 
 type Sweep = fn(Take);
 
-pub const SWEEPS: [(&str, Sweep); 33] = [
+pub const SWEEPS: [(&str, Sweep); 39] = [
     ("each byte of a store, each value", bytes_of_a_store),
     ("each field of a store, beside where soundness turns", fields_of_a_store),
     ("each cell's state, flag and value together", cells_of_a_store),
@@ -50,9 +51,18 @@ pub const SWEEPS: [(&str, Sweep); 33] = [
     ("each rank with each refusal of a text", ranks::refused_texts),
     ("ranks above 24", ranks::above_24),
     ("bulletins at each rank", ranks::bulletins),
+    ("each iR with a group 6 in each place", dry::reports),
+    ("dry and wet reports, one over the other", dry::replaced),
+    ("each RRR before a dry report", dry::showers),
+    ("each iR and tR in a half of the rain", dry::halves),
+    ("iR, tR and R in both halves", dry::four_slots),
+    ("R in each state at and before a dry end", dry::states),
 ];
 
 const STATION: u32 = 40001;
+
+/// YYGG of each slot.
+const TIMES: [&str; 9] = ["1106", "1109", "1112", "1115", "1118", "1121", "1200", "1203", "1206"];
 
 /// The store's one station is settled.
 fn settled() -> Edits {

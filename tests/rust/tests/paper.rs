@@ -470,6 +470,222 @@ fn the_printed_day_knows_no_rank() {
     assert!(lines.finish().ends_with("refused 2\n"));
 }
 
+/// YYGG of each slot of 2024-04-11.
+const TIMES: [&str; 9] = ["1106", "1109", "1112", "1115", "1118", "1121", "1200", "1203", "1206"];
+
+/// A store whose slots have these groups from iRixhVV on, filed one by one or in bulletins.
+fn with_rain(reports: &[(usize, &str)], in_bulletins: bool) -> Vec<u8> {
+    let mut store = opened(&[1]);
+    for (slot, groups) in reports {
+        let text = format!("AAXX {}1 00001 {groups}=", TIMES[*slot]);
+        if in_bulletins {
+            let tally = reference::bulletin(&mut store, text.as_bytes(), 0).unwrap();
+            assert_eq!(tally, Tally { accepted: 1, refused: 0 }, "{text}");
+        } else {
+            assert_eq!(file(&mut store, &text), 0, "{text}");
+        }
+    }
+    store
+}
+
+/// iR, tR and the raw R that one report leaves, by file and by bulletin alike.
+fn rain_of(slot: usize, groups: &str) -> (u8, u8, Cell) {
+    let stores = [false, true].map(|in_bulletins| with_rain(&[(slot, groups)], in_bulletins));
+    assert_eq!(stores[0], stores[1], "{groups}");
+    let block = store::block(&stores[0], 0);
+    let head = store::head(block, slot);
+    (head.ir, head.tr, store::raw_sheet(block)[slot][store::R])
+}
+
+fn read_cell(value: i16) -> Cell {
+    Cell { state: 1, flag: 0, value }
+}
+
+/// "Where R is absent from the report and iR is 3, R reads as 0, with tR 2 at slots 0, 4 and 8 and tR 1 at slots 2 and 6;
+/// at other slots it stays missing."
+#[test]
+fn where_a_report_is_dry() {
+    let hours = [2, 0, 1, 0, 2, 0, 1, 0, 2];
+    for (slot, tr) in hours.into_iter().enumerate() {
+        for (ir, digit) in [(0, '0'), (1, '1'), (2, '2'), (4, '4'), (5, '5'), (5, '9'), (5, '/')] {
+            assert_eq!(rain_of(slot, &format!("{digit}2360 62704")), (ir, 0, Cell::MISSING), "{slot}");
+        }
+        let dry = if tr == 0 { Cell::MISSING } else { read_cell(0) };
+        assert_eq!(rain_of(slot, "32360 62704"), (3, tr, dry), "{slot}");
+        assert_eq!(rain_of(slot, "3//// ///// 10103 333 10120 70000"), (3, tr, dry), "{slot}");
+    }
+}
+
+/// "A group 6 that is present wins over iR, even if its value is missing", in section 1 or, where none is there, in
+/// section 3.
+#[test]
+fn a_group_6_wins_over_ir() {
+    let missing = ["6////", "6///1", "6///2", "60001", "60002", "6000/", "60/02", "6/902", "699/2"];
+    for slot in 0..9 {
+        for group in missing {
+            for place in ["", "333 ", "333 55300 80000 ", "6//// 333 "] {
+                let groups = format!("32360 62704 {place}{group}");
+                assert_eq!(rain_of(slot, &groups), (3, 0, Cell::MISSING), "{slot} {groups}");
+            }
+            let groups = format!("32360 62704 {group} 333 60032");
+            assert_eq!(rain_of(slot, &groups), (3, 0, Cell::MISSING), "{slot} {groups}");
+        }
+        let there = [("60031", 1, 30), ("69902", 2, 0), ("69904", 4, 0), ("69911", 1, 1), ("6003/", 0, 30)];
+        for (group, tr, tenths) in there {
+            for place in ["", "333 ", "333 55300 80000 "] {
+                let groups = format!("32360 62704 {place}{group}");
+                assert_eq!(rain_of(slot, &groups), (3, tr, read_cell(tenths)), "{slot} {groups}");
+            }
+        }
+    }
+}
+
+/// A 6 that a 55 run skips, and one in section 2, 4 or 5, is no R of the report. A dry report leaves the same bytes as one
+/// that sends 990 and the slot's tR.
+#[test]
+fn a_6_that_is_no_rain() {
+    for (slot, sent) in [(0, "69902"), (2, "69901"), (4, "69902"), (6, "69901"), (8, "69902")] {
+        let said = with_rain(&[(slot, &format!("32360 62704 {sent}"))], false);
+        let others = ["", "333 55300 60052", "333 55300 0//// /0000 60052 70000", "333 55/// 55300 60052"];
+        for groups in others.into_iter().chain(["222// 60052", "444 60052", "555 60052", "333 444 6////"]) {
+            assert_eq!(with_rain(&[(slot, &format!("32360 62704 {groups}"))], false), said, "{groups}");
+        }
+    }
+}
+
+/// The day's rain after these reports.
+fn total(reports: &[(usize, &str)]) -> Option<i32> {
+    let mut store = with_rain(reports, false);
+    reference::settle(&mut store, 1).unwrap();
+    reference::day(&store, 1).unwrap().rain
+}
+
+const IS_DRY: &str = "32360 62704";
+
+/// "Its days come out without a total": now the total is 0 where both halves end in a dry slot.
+#[test]
+fn the_total_of_a_dry_day() {
+    assert_eq!(total(&[4, 8].map(|slot| (slot, IS_DRY))), Some(0));
+    assert_eq!(total(&[0, 1, 2, 3, 4, 5, 6, 7, 8].map(|slot| (slot, IS_DRY))), Some(0));
+    assert_eq!(total(&[0, 2, 6, 8].map(|slot| (slot, IS_DRY))), None);
+    assert_eq!(total(&[(4, IS_DRY), (8, "12360 62704 60032")]), Some(30));
+    // Slot 8 alone over 6 hours, or without a value.
+    assert_eq!(total(&[(2, IS_DRY), (4, IS_DRY), (6, IS_DRY), (8, "12360 62704 60031")]), Some(30));
+    assert_eq!(total(&[(4, IS_DRY), (8, "32360 62704 6////")]), None);
+    let mut store = with_rain(&[(4, IS_DRY)], false);
+    reference::settle(&mut store, 1).unwrap();
+    assert_eq!(reference::cell(&store, 1, 6, 4), Ok(read_cell(0)));
+}
+
+/// "A half that ends in a slot with iR 3, R 0 and tR 2 is the R of the slot six hours before where that slot has tR 1, so
+/// that a shower reported at noon is not lost."
+#[test]
+fn a_shower_is_not_lost() {
+    for (before, end, other) in [(2, 4, 8), (6, 8, 4)] {
+        let day = |noon: &str, last: &str| total(&[(before, noon), (end, last), (other, IS_DRY)]);
+        for last in [IS_DRY, "32360 62704 69902", "32360 62704 333 69902"] {
+            assert_eq!(day("12360 62704 60031", last), Some(30), "{last}");
+            // Its own iR does not matter.
+            for ir in ['0', '2', '3', '4', '/'] {
+                assert_eq!(day(&format!("{ir}2360 62704 333 69951"), last), Some(5), "{last}");
+            }
+            // Not tR 1 there; R missing, which leaves tR 0; R discarded; at the limit; nothing filed.
+            assert_eq!(day("12360 62704 60032", last), Some(0), "{last}");
+            assert_eq!(day("12360 62704 6003/", last), Some(0), "{last}");
+            assert_eq!(day("12360 62704 6///1", last), Some(0), "{last}");
+            assert_eq!(day("12360 62704 65011", last), None, "{last}");
+            assert_eq!(day("12360 62704 65001", last), Some(5000), "{last}");
+            assert_eq!(total(&[(end, last), (other, IS_DRY)]), Some(0), "{last}");
+        }
+        // Not iR 3, R not 0, or R discarded: as before.
+        assert_eq!(day("12360 62704 60031", "12360 62704 69902"), Some(0));
+        assert_eq!(day("12360 62704 60031", "32360 62704 60022"), Some(20));
+        assert_eq!(day("12360 62704 60031", "32360 62704 65012"), None);
+        // tR 1 at both ends: the sum, as before.
+        assert_eq!(day("12360 62704 60031", "32360 62704 69901"), Some(30));
+        assert_eq!(day("12360 62704 60031", "32360 62704 60011"), Some(40));
+        // A dry slot six hours before.
+        assert_eq!(day(IS_DRY, "12360 62704 60011"), Some(10));
+        assert_eq!(day(IS_DRY, IS_DRY), Some(0));
+    }
+    // Three hours before, and the night before, do not matter.
+    let noise = ["12360 62704 60031"; 4];
+    assert_eq!(total(&[(0, noise[0]), (3, noise[1]), (4, IS_DRY), (7, noise[2]), (8, IS_DRY)]), Some(0));
+}
+
+/// "R of slot 8 if its tR is 4" still comes first.
+#[test]
+fn a_dry_day_of_24_hours() {
+    let (shower, rain) = ("12360 62704 60031", "12360 62704 60074");
+    assert_eq!(total(&[(2, shower), (4, IS_DRY), (6, shower), (8, rain)]), Some(70));
+    assert_eq!(total(&[(2, shower), (4, IS_DRY), (6, shower), (8, "32360 62704 69904")]), Some(0));
+    assert_eq!(total(&[(2, shower), (4, IS_DRY), (6, shower), (8, "32360 62704 65014")]), None);
+    assert_eq!(total(&[(2, shower), (4, IS_DRY), (6, shower), (8, IS_DRY)]), Some(60));
+}
+
+/// By hand: the head's iR and tR and the checked R decide, wherever they came from. Neither filed nor the raw R matters,
+/// nor R's state and flag.
+#[test]
+fn the_halves_of_any_store() {
+    let made = |before: (u8, Cell), end: (u8, u8, Cell)| {
+        let mut store = opened(&[1]);
+        store::set_settled(&mut store, 0, 1);
+        let block = store::block_mut(&mut store, 0);
+        let mut sheet = [[Cell::MISSING; 9]; 9];
+        for (slot, (ir, tr, cell)) in [(2, (5, before.0, before.1)), (4, end), (8, (0, 2, read_cell(1)))] {
+            store::put_head(block, slot, Head { ir, tr, ..Head::UNFILED });
+            sheet[slot][store::R] = cell;
+        }
+        store::put_checked(block, &sheet);
+        reference::day(&store, 1).unwrap().rain
+    };
+    let shower = (1, Cell { state: 3, flag: 2, value: -7 });
+    for (state, flag) in (1..=3).flat_map(|state| (0..=4).map(move |flag| (state, flag))) {
+        let end = |value| Cell { state, flag, value };
+        assert_eq!(made(shower, (3, 2, end(0))), Some(-6));
+        assert_eq!(made(shower, (3, 2, end(-1))), Some(0));
+        assert_eq!(made((1, Cell { state: 0, flag, value: 0 }), (3, 2, end(0))), None);
+        for ir in [0, 1, 2, 4, 5] {
+            assert_eq!(made(shower, (ir, 2, end(0))), Some(1), "{ir}");
+        }
+        for tr in [0, 3, 4, 5, 6, 7, 8, 9] {
+            assert_eq!(made(shower, (3, tr, end(0))), None, "{tr}");
+        }
+    }
+    for tr in [0, 2, 3, 4, 5, 6, 7, 8, 9] {
+        assert_eq!(made((tr, shower.1), (3, 2, read_cell(0))), Some(1), "{tr}");
+    }
+    assert_eq!(made(shower, (3, 2, Cell::MISSING)), None);
+}
+
+/// A dry report of a higher rank takes the place of rain, and rain that of a dry one.
+#[test]
+fn a_dry_report_amended() {
+    for (first, second, tr, tenths) in
+        [(IS_DRY, "12360 62704 60042", 2, 40), ("12360 62704 60041", IS_DRY, 2, 0)]
+    {
+        let mut store = with_rain(&[(4, first)], false);
+        assert_eq!(file_at(&mut store, &format!("AAXX 11181 00001 {second}="), 1), 0);
+        let block = store::block(&store, 0);
+        assert_eq!(store::head(block, 4).tr, tr);
+        assert_eq!(store::raw_sheet(block)[4][store::R], read_cell(tenths));
+    }
+}
+
+/// A dry station's day, with a shower at noon in the second line's.
+#[test]
+fn the_printed_day_of_a_dry_station() {
+    let mut lines = DayLines::default();
+    lines.feed(b"2024 4 11 40001 0 40002 0\n");
+    for (station, noon) in [(40001, "32360 62704"), (40002, "12360 62704 60031")] {
+        lines.feed(format!("AAXX 11121 {station} {noon}=\n").as_bytes());
+        for time in ["1118", "1206"] {
+            lines.feed(format!("AAXX {time}1 {station} 32360 62704=\n").as_bytes());
+        }
+    }
+    assert_eq!(lines.finish(), "40001 0 - - 12 0 1 68\n40002 30 - - 12 0 1 68\nrefused 0\n");
+}
+
 #[test]
 fn checks_in_order() {
     let number = |text: &[u8]| report::read(text).err().map_or(0, |refusal| refusal.number());

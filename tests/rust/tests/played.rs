@@ -3,8 +3,8 @@
 use reading::calls::{Calls, Reference};
 use reading::played::{crc32, play};
 
-/// Those of the state after S-3; of S-4 nothing shows.
-const CALLS: &str = include_str!("../data/calls-03.txt");
+/// Those of the state after S-5.
+const CALLS: &str = include_str!("../data/calls-05.txt");
 
 fn plays(calls: &dyn Calls) {
     let (lines, differences) = play(calls, CALLS);

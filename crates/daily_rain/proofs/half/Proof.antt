@@ -1,50 +1,72 @@
 -- `daily_rain::half` meets its contract.
 -- Assumes nothing.
-use mathlib.Core.Bool.{Bool, _&&_}
-use mathlib.Core.Path.{_≡_, _∙_, ap, ap₂, sym}
-use Prim.Native.Nat.{ℕ}
+use mathlib.Core.Option.{Option}
+use mathlib.Core.Path.{_≡_, _∙_}
 use borrow.Author.Needs.{needs}
-use borrow.Author.Tests.{eq-eqb, ne-eqb}
-use lib.Dec.{eqb}
-use Rattle.laws.proofs.Bools.{and-eq, cond-false, skip, took, via}
-use Rattle.daily.specs.Rain.{half, together, tR}
-use Rattle.daily_rain.proofs.Amounts.{both, grows}
+use lib.IntN.{ℤ}
+use Rattle.quality.specs.Coded.{cells}
+use Rattle.quality.specs.declared.head.SlotHead.{SlotHead}
+use Rattle.daily.specs.Rain.{half}
+use Rattle.daily_rain.specs.Parts.{amountOf}
+use Rattle.daily_rain.proofs.Amounts.{grows, both, halfBy, dry, alone, two, neither, half-as}
 use Rattle.daily_rain.proofs.half.Statement.{statement}
 use Rattle.daily_rain.proofs.half.Tie as tie
 
-returns : tie.Need-returns
-unfolding half
-returns c =
-    let i = c .before in
-    record {
-      amount = c .amount-at .ensures .amount ∙ took _ _ _ (eq-eqb _ _ (sym (i .before .tr-at2 .ensures) ∙ i .if1 .taken));
-      small = grows 1 (c .amount-at .ensures .small);
-    }
+-- the two heads and amounts that were read, and the rule by them
+module _ (x : tie.After-amount-at2) where
+  abbrev before : SlotHead
+  before = x .before .before .before .head-at .result
 
--- "both tR 1", of the heads
-both-one : (x : tie.Else1) {v : Bool} → (eqb (x .before .before .tr-at .result) 1 && eqb (x .before .tr-at2 .result) 1) ≡ v
-    → let a = x .before .before .before .args in (eqb (tR (a .heads) (a .first)) 1 && eqb (tR (a .heads) (a .last)) 1) ≡ v
-both-one x = via (and-eq (ap (λ (n : ℕ). eqb n 1) (x .before .before .tr-at .ensures)) (ap (λ (n : ℕ). eqb n 1) (x .before .tr-at2 .ensures)))
+  abbrev end : SlotHead
+  end = x .before .before .head-at2 .result
+
+  abbrev first : Option ℤ
+  first = amountOf (x .before .amount-at .result)
+
+  abbrev last : Option ℤ
+  last = amountOf (x .amount-at2 .result)
+
+  rule : let o = x .before .before .before .before .args in halfBy (end .ir) (end .tr) (before .tr) first last ≡ half (o .heads) (cells (o .r)) (o .first) (o .last)
+  rule =
+      let o = x .before .before .before .before .args in
+      half-as (o .heads) (cells (o .r)) (o .first) (o .last) (x .before .before .head-at2 .ensures .0) (x .before .before .head-at2 .ensures .1)
+      (x .before .before .before .head-at .ensures .1) (x .before .amount-at .ensures .amount) (x .amount-at2 .ensures .amount)
+
+unless-nothing-requires : tie.Need-unless-nothing-requires
+unless-nothing-requires c κs = let x = c .before .before .before .before .before in (grows 1 (x .before .amount-at .ensures .small), grows 1 (x .amount-at2 .ensures .small))
+
+returns : tie.Need-returns
+returns c =
+    let x = c .before .before .before .before .before .before in
+    record {
+      amount = c .unless-nothing .ensures .amount ∙ dry (end x .ir) (end x .tr) (before x .tr) (first x) (last x) (c .before .before .before .before .if1 .taken) (c .before .if2 .taken) ∙ rule x;
+      small = c .unless-nothing .ensures .small;
+    }
 
 returns-2 : tie.Need-returns-2
-unfolding half
 returns-2 c =
-    let x = c .before .before in
-    let y = c .before in
-    let i = x .before .before in
+    let x = c .before .before .before .before .before in
     record {
-      amount =
-          skip _ _ _ _ (ne-eqb _ _ (λ e. i .if1 .left (i .before .tr-at2 .ensures ∙ e)))
-          (c .together .ensures .amount ∙ ap₂ together (x .amount-at2 .ensures .amount) (y .amount-at3 .ensures .amount) ∙ took _ _ _ (both-one i (x .before .if2 .taken)));
-      small = both (c .together .ensures) (x .amount-at2 .ensures .small) (y .amount-at3 .ensures .small);
+      amount = alone (end x .ir) (end x .tr) (before x .tr) (first x) (last x) (c .before .before .before .if1 .taken) (c .if2 .left) ∙ rule x;
+      small = grows 1 (x .amount-at2 .ensures .small);
     }
 
+together-requires : tie.Need-together-requires
+together-requires c κs = let x = c .before .before .before .before .before in (grows 1 (x .before .amount-at .ensures .small), grows 1 (x .amount-at2 .ensures .small))
+
 returns-3 : tie.Need-returns-3
-unfolding half
 returns-3 c =
-    let i = c .before in
+    let x = c .before .before .before .before .before .before in
     record {
-      amount = skip _ _ _ _ (ne-eqb _ _ (λ e. i .if1 .left (i .before .tr-at2 .ensures ∙ e))) (sym (cond-false _ _ _ (both-one i (c .if2 .left))));
+      amount = c .together .ensures .amount ∙ two (end x .ir) (end x .tr) (before x .tr) (first x) (last x) (c .before .before .before .before .if1 .left) (c .before .if3 .taken) ∙ rule x;
+      small = both (c .together .ensures) (x .before .amount-at .ensures .small) (x .amount-at2 .ensures .small);
+    }
+
+returns-4 : tie.Need-returns-4
+returns-4 c =
+    let x = c .before .before .before .before .before in
+    record {
+      amount = neither (end x .ir) (end x .tr) (before x .tr) (first x) (last x) (c .before .before .before .if1 .left) (c .if3 .left) ∙ rule x;
       small = record { sum = search needs; offset = search needs };
     }
 
@@ -55,9 +77,10 @@ half-spec =
     (λ c κs. search needs)
     (λ c κs. search needs)
     (λ c κs. search needs)
+    (λ c κs. search needs)
+    unless-nothing-requires
     returns
-    (λ c κs. search needs)
-    (λ c κs. search needs)
-    (λ c κs. search needs)
     returns-2
-    returns-3)
+    together-requires
+    returns-3
+    returns-4)

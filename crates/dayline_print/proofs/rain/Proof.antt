@@ -1,5 +1,6 @@
 -- `dayline_print::rain` meets its contract.
 -- Assumes nothing.
+use mathlib.Core.List.{[], _∷_}
 use borrow.Author.Needs.{needs}
 use mathlib.Core.Path.{sym, _∙_, ap}
 use lib.IntN.{ℤ}
@@ -12,7 +13,9 @@ use Rattle.dayline_print.proofs.rain.Statement.{statement}
 use Rattle.dayline_print.proofs.rain.Tie as tie
 
 returns : tie.Need-returns
-returns c = adds-as (ap (λ (r : Rain). field (rain r)) (sym (c .before .before .before .before .enum-told .given .1))) (c .before .before .absent .ensures)
+returns c =
+    adds-as {x = 32 ∷ 45 ∷ []} (ap (λ (r : Rain). field (rain r)) (sym (c .before .before .before .before .before .enum-told .given .1)))
+    (c .before .before .put-all .ensures)
 
 returns-2 : tie.Need-returns-2
 returns-2 c =
@@ -22,5 +25,5 @@ returns-2 c =
 pub rain-spec : {M : Type 1} → statement M
 rain-spec =
     tie.close
-    (tie.spec (λ c. search needs) (λ c κs. search needs) (λ c. search needs) (λ c κs. search needs) (λ c. search needs) returns
+    (tie.spec (λ c. search needs) (λ c. search needs) (λ c κs. search needs) (λ c. search needs) (λ c κs. search needs) (λ c. search needs) returns
     (λ c. search needs) returns-2)

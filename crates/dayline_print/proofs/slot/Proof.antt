@@ -1,5 +1,6 @@
 -- `dayline_print::slot` meets its contract.
 -- Assumes nothing.
+use mathlib.Core.List.{[], _∷_}
 use borrow.Author.Needs.{needs}
 use mathlib.Core.Path.{sym, ap}
 use Rattle.daily.specs.declared.Extreme.{Extreme}
@@ -9,7 +10,9 @@ use Rattle.dayline_print.proofs.slot.Statement.{statement}
 use Rattle.dayline_print.proofs.slot.Tie as tie
 
 returns : tie.Need-returns
-returns c = adds-as (ap (λ (e : Extreme). field (slot e)) (sym (c .before .before .before .before .enum-told .given .1))) (c .before .before .absent .ensures)
+returns c =
+    adds-as {x = 32 ∷ 45 ∷ []} (ap (λ (e : Extreme). field (slot e)) (sym (c .before .before .before .before .before .enum-told .given .1)))
+    (c .before .before .put-all .ensures)
 
 returns-2 : tie.Need-returns-2
 returns-2 c = adds-as (ap (λ (e : Extreme). field (slot e)) (sym (c .before .before .before .before .before .e .given .1))) (c .before .before .number .ensures)
@@ -17,5 +20,5 @@ returns-2 c = adds-as (ap (λ (e : Extreme). field (slot e)) (sym (c .before .be
 pub slot-spec : {M : Type 1} → statement M
 slot-spec =
     tie.close
-    (tie.spec (λ c. search needs) (λ c κs. search needs) (λ c. search needs) (λ c κs. search needs) (λ c. search needs) returns
+    (tie.spec (λ c. search needs) (λ c. search needs) (λ c κs. search needs) (λ c. search needs) (λ c κs. search needs) (λ c. search needs) returns
     (λ c. search needs) returns-2)

@@ -2,6 +2,7 @@
 -- Assumes nothing.
 use mathlib.Core.Path.{_≡_, refl, _∙_, ap}
 use mathlib.Core.List.{List}
+use mathlib.Core.Logic.{⊎-elim}
 use Prim.Native.Nat.{ℕ}
 use native.Mathlib.Omega.{arith}
 use borrow.Author.Needs.{needs}
@@ -41,26 +42,33 @@ by o e w = Filed.did-as (ap (λ (d : Effect). after d (o .args .index) (decode (
 returns : tie.Need-returns
 unfolding station
 returns c =
-    let o = c .before .before .before .before .before .before .before .before .args in
-    by (c .before .before .before .before .before .before .before .before) (Filed.below (o .k) (o .rank) (o .head) (listed (o .values)) (station (c .before .before .before .before .before .before .before .before)) (there (c .before .before)) (omega (arith, c .if1 .taken))) (record { answer = refl; left = refl })
+    let s = c .before .before .before .before .before .before .before .before in
+    let o = s .args in
+    by s (Filed.below (o .k) (o .rank) (o .head) (listed (o .values)) (station s) (there (c .before .before)) (omega (arith, c .if1 .taken))) (record { answer = refl; left = refl })
 
 returns-2 : tie.Need-returns-2
 unfolding station
 returns-2 c =
-    let o = c .before .before .before .before .before .before .before .before .before .before .before .before .before .before .args in
-    by (c .before .before .before .before .before .before .before .before .before .before .before .before .before .before) (Filed.above (o .k) (o .rank) (o .head) (listed (o .values)) (station (c .before .before .before .before .before .before .before .before .before .before .before .before .before .before)) (there (c .before .before .before .before .before .before .before .before)) (omega (arith, c .before .before .before .before .if2 .taken))) (c .before .before .put-filed .ensures)
+    let s = c .before .before .before .before .before .before .before .before .before .before .before .before in
+    let o = s .args in
+    by s
+    (Filed.already (o .k) (o .rank) (o .head) (listed (o .values)) (station s) (there (c .before .before .before .before .before .before))
+    (omega (arith, c .before .before .before .before .if1 .left, c .before .before .if2 .taken)) (omega (arith, c .if3 .taken)))
+    (record { answer = refl; left = refl })
 
+-- by either way: the same rank and a free slot, or a higher rank
 returns-3 : tie.Need-returns-3
 unfolding station
 returns-3 c =
-    let o = c .before .before .before .before .before .before .before .before .before .before .before .before .args in
-    by (c .before .before .before .before .before .before .before .before .before .before .before .before) (Filed.already (o .k) (o .rank) (o .head) (listed (o .values)) (station (c .before .before .before .before .before .before .before .before .before .before .before .before)) (there (c .before .before .before .before .before .before)) (omega (arith, c .before .before .before .before .if1 .left, c .before .before .if2 .left)) (omega (arith, c .if3 .taken))) (record { answer = refl; left = refl })
-
-returns-4 : tie.Need-returns-4
-unfolding station
-returns-4 c =
-    let o = c .before .before .before .before .before .before .before .before .before .before .before .before .before .before .before .before .args in
-    by (c .before .before .before .before .before .before .before .before .before .before .before .before .before .before .before .before) (Filed.free (o .k) (o .rank) (o .head) (listed (o .values)) (station (c .before .before .before .before .before .before .before .before .before .before .before .before .before .before .before .before)) (there (c .before .before .before .before .before .before .before .before .before .before)) (omega (arith, c .before .before .before .before .before .before .before .before .if1 .left, c .before .before .before .before .before .before .if2 .left)) (λ f. c .before .before .before .before .if3 .left (omega (arith, f)))) (c .before .before .put-filed2 .ensures)
+    let s = c .before .before .before .before .before .before .before .before .before .before .before .before .before .before in
+    let o = s .args in
+    let e = there (c .before .before .before .before .before .before .before .before) in
+    by s
+    (⊎-elim
+    (λ w. Filed.free (o .k) (o .rank) (o .head) (listed (o .values)) (station s) e (omega (arith, c .before .before .before .before .before .before .if1 .left, w .0 .taken)) (λ f. w .2 .left (omega (arith, f))))
+    (λ w. Filed.above (o .k) (o .rank) (o .head) (listed (o .values)) (station s) e (omega (arith, w .left)))
+    (c .before .before .before .before .if2 .came))
+    (c .before .before .put-filed .ensures)
 
 pub file-at-spec : {M : Type 1} → statement M
 file-at-spec =
@@ -74,11 +82,8 @@ file-at-spec =
     (λ c κs. search needs)
     (λ c. search needs)
     returns
-    (λ c κs. search needs)
     (λ c. search needs)
     returns-2
-    (λ c. search needs)
-    returns-3
     (λ c κs. search needs)
     (λ c. search needs)
-    returns-4)
+    returns-3)

@@ -9,7 +9,9 @@ use crate::reference::layout::{block_at, entry_at, store_length, Record};
 use crate::reference::layout::{
     BLOCK, ENTRY, FILED, FLAG, HEADER, HEADER_FIELDS, N, NUMBER, RANK, RAW, SPARE, STATE, STATION, VALUE,
 };
-use crate::reference::store::{self, can_open, Cell, Head, Sheet, D, HIGHEST_RANK, HUMIDITY, READ, T};
+use crate::reference::store::{
+    self, can_open, Cell, Head, Sheet, D, DRY, HIGHEST_RANK, HUMIDITY, R, READ, T,
+};
 
 /// The arguments of an open call but its buffer.
 #[derive(Clone, Debug)]
@@ -173,6 +175,11 @@ pub fn hand_made(rng: &mut Rng, opening: &Opening) -> Vec<u8> {
             }
         }
         some_humidities(rng, &mut checked, &[0, 0, 1, 2, 3, 4]);
+        for end in [4, 8] {
+            if rng.chance(50) {
+                dry_end(rng, block, &mut checked, end);
+            }
+        }
         store::put_checked(block, &checked);
     }
     store
@@ -268,6 +275,26 @@ fn some_humidities(rng: &mut Rng, sheet: &mut Sheet, flags: &[u8]) {
             let any = if rng.chance(30) { rng.pick(&[1, 50, 100]) } else { rng.between(1, 100) as i16 };
             cells[D] = Cell { state: HUMIDITY, flag: rng.pick(flags), value: one.unwrap_or(any) };
         }
+    }
+}
+
+/// A half of the day that ends in a dry slot, or nearly so: iR, tR and R of that slot and of the one six hours before.
+fn dry_end(rng: &mut Rng, block: &mut [u8], checked: &mut Sheet, end: usize) {
+    let indicators = [rng.below(6), rng.below(6)].map(|ir| ir as u8);
+    let (before_end, at_end) = (
+        (indicators[0], rng.pick(&[1, 1, 1, 1, 2, 0]), rng.pick(&[Some(120), Some(3), Some(0), None])),
+        (
+            rng.pick(&[DRY, DRY, indicators[1]]),
+            rng.pick(&[2, 2, 2, 2, 2, 4, 1, 0]),
+            rng.pick(&[Some(0), Some(0), Some(0), Some(0), Some(1), None]),
+        ),
+    );
+    for (slot, (ir, tr, rain)) in [(end - 2, before_end), (end, at_end)] {
+        store::put_head(block, slot, Head { ir, tr, ..store::head(block, slot) });
+        let Cell { state, flag, .. } = checked[slot][R];
+        let flag = rng.pick(&[flag, flag, 1]);
+        let missing = Cell { flag, ..Cell::MISSING };
+        checked[slot][R] = rain.map_or(missing, |value| Cell { state: state.max(READ), flag, value });
     }
 }
 

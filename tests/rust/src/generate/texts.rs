@@ -19,6 +19,8 @@ pub struct Weather {
     odd: usize,
     /// How often, in a hundred, the dew point's sensor is down and a humidity is sent.
     humid: usize,
+    /// How often, in a hundred, there has been no rain, which iR 3 says, mostly without a group 6.
+    dry: usize,
     temperature: i32,
     pressure: i32,
     /// How rain is measured: 0 over 24 hours, 1 over 12, 2 over 6, 3 anyhow.
@@ -30,6 +32,7 @@ impl Weather {
         Weather {
             odd: rng.pick(&[0, 1, 3, 10, 30]),
             humid: rng.pick(&[0, 0, 0, 0, 10, 40, 100]),
+            dry: rng.pick(&[0, 0, 0, 30, 60, 100]),
             temperature: rng.between(-150, 250),
             pressure: rng.between(9800, 10300),
             rain: rng.below(4),
@@ -74,17 +77,17 @@ pub fn report(
         groups.push(b"NIL".to_vec());
         return groups;
     }
-    groups.push(indicators(rng, weather));
-    wind(rng, weather, knots, &mut groups);
     let rain = rain(rng, weather, slot);
-    section1(rng, weather, &rain, &mut groups);
+    groups.push(indicators(rng, weather, rain.dry));
+    wind(rng, weather, knots, &mut groups);
+    section1(rng, weather, rain.section1, &mut groups);
     if rng.chance(6) {
         groups.push(format!("222{}{}", digit(rng), digit(rng)).into_bytes());
         some_groups(rng, &mut groups);
     }
     if rng.chance(50) {
         groups.push(b"333".to_vec());
-        section3(rng, weather, &rain, &mut groups);
+        section3(rng, weather, rain.section3, &mut groups);
     }
     for word in [b"444", b"555"] {
         if rng.chance(5) {
@@ -108,7 +111,7 @@ fn any_group(rng: &mut Rng) -> Vec<u8> {
 fn some_groups(rng: &mut Rng, groups: &mut Vec<Vec<u8>>) {
     for _ in 0..rng.below(4) {
         let group = if rng.chance(20) {
-            rng.pick(&[b"22200", b"55123", b"10123", b"00123"]).to_vec()
+            rng.pick(&[b"22200", b"55123", b"10123", b"00123", b"60022"]).to_vec()
         } else {
             any_group(rng)
         };
@@ -133,9 +136,10 @@ fn maybe_slashed(rng: &mut Rng, weather: &Weather, group: String) -> Vec<u8> {
 }
 
 /// iRixhVV
-fn indicators(rng: &mut Rng, weather: &Weather) -> Vec<u8> {
+fn indicators(rng: &mut Rng, weather: &Weather, dry: bool) -> Vec<u8> {
     let vv = rng.below(100);
-    let group = format!("{}{}{}{vv:02}", digit(rng), digit(rng), digit(rng));
+    let ir = if dry { '3' } else { digit(rng) };
+    let group = format!("{ir}{}{}{vv:02}", digit(rng), digit(rng));
     maybe_slashed(rng, weather, group)
 }
 
@@ -214,7 +218,7 @@ fn or_limit(rng: &mut Rng, weather: &Weather, value: i32, limits: &[i32]) -> i32
 }
 
 /// Section 1 groups, in order.
-fn section1(rng: &mut Rng, weather: &mut Weather, rain: &[u8], groups: &mut Vec<Vec<u8>>) {
+fn section1(rng: &mut Rng, weather: &mut Weather, rain: Option<Vec<u8>>, groups: &mut Vec<Vec<u8>>) {
     let given = |rng: &mut Rng, weather: &Weather| !weather.is_odd(rng);
     let t = moved(rng, weather, weather.temperature);
     let t = or_limit(rng, weather, t, &TEMPERATURES);
@@ -240,9 +244,7 @@ fn section1(rng: &mut Rng, weather: &mut Weather, rain: &[u8], groups: &mut Vec<
     if rng.chance(30) {
         groups.push(any_of(rng, b'5'));
     }
-    if rng.chance(70) {
-        groups.push(rain.to_vec());
-    }
+    groups.extend(rain);
     for first in *b"789" {
         if rng.chance(20) {
             groups.push(any_of(rng, first));
@@ -264,8 +266,30 @@ fn any_of(rng: &mut Rng, first: u8) -> Vec<u8> {
     group
 }
 
+/// What a report says of rain: iR 3, and the group 6 of each section that has one.
+struct Rain {
+    dry: bool,
+    section1: Option<Vec<u8>>,
+    section3: Option<Vec<u8>>,
+}
+
+/// Under iR 3 there is mostly no group 6; it is missing its value, says that there was none, or comes all the same.
+fn rain(rng: &mut Rng, weather: &Weather, slot: usize) -> Rain {
+    let dry = rng.chance(weather.dry);
+    let group = rain_group(rng, weather, slot);
+    let (section1, section3) = match rng.below(12) {
+        _ if !dry => (rng.chance(70).then(|| group.clone()), rng.chance(50).then_some(group)),
+        0 => (Some(rng.pick(&[b"6////", b"6///1", b"6///2", b"60001", b"60002", b"6000/"]).to_vec()), None),
+        1 => (Some(rng.pick(&[b"69901", b"69902", b"69904", b"6990/"]).to_vec()), None),
+        2 => (Some(group), None),
+        3 => (None, Some(group)),
+        _ => (None, None),
+    };
+    Rain { dry, section1, section3 }
+}
+
 /// 6RRRtR
-fn rain(rng: &mut Rng, weather: &Weather, slot: usize) -> Vec<u8> {
+fn rain_group(rng: &mut Rng, weather: &Weather, slot: usize) -> Vec<u8> {
     let amount = match rng.below(4) {
         0 => rng.pick(&RAIN),
         1 => rng.between(990, 999),
@@ -283,7 +307,7 @@ fn rain(rng: &mut Rng, weather: &Weather, slot: usize) -> Vec<u8> {
 }
 
 /// Section 3 groups: some of every kind, mostly ascending, with runs after a 55.
-fn section3(rng: &mut Rng, weather: &Weather, rain: &[u8], groups: &mut Vec<Vec<u8>>) {
+fn section3(rng: &mut Rng, weather: &Weather, rain: Option<Vec<u8>>, groups: &mut Vec<Vec<u8>>) {
     let mut section = Vec::new();
     for first in [1, 2] {
         if first == 2 && rng.chance(5) {
@@ -305,9 +329,7 @@ fn section3(rng: &mut Rng, weather: &Weather, rain: &[u8], groups: &mut Vec<Vec<
             section.push(any_of(rng, first));
         }
     }
-    if rng.chance(50) {
-        section.push(rain.to_vec());
-    }
+    section.extend(rain);
     for _ in 0..rng.below(3) {
         let first = rng.pick(b"0123456789/");
         section.push(any_of(rng, first));

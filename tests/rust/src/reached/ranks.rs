@@ -1,5 +1,6 @@
 //! What filing at a rank reached (document 02, S-3).
 
+use super::dry::BY_BULLETIN;
 use super::Reached;
 use crate::calls::{Calls, Reference};
 use crate::place::{place, reports, Place};
@@ -62,6 +63,9 @@ impl Reached {
         for report in reports(text) {
             let place = place(&store, &report);
             let number = Reference.file(&mut store, &report, rank);
+            if number == 0 {
+                self.rain_filed(BY_BULLETIN, &report, &store);
+            }
             let Some(Place { head, nil, .. }) = place else { continue };
             let kind = match (head.filed, nil, number) {
                 (0, false, 0) => 0,

@@ -1,6 +1,6 @@
 //! "The day line".
 
-use super::store::{self, Cell, Sheet, C, CORRECTED, D, FILLED, HUMIDITY, MISSING, P, R, READ, T, W};
+use super::store::{self, Cell, Sheet, C, CORRECTED, D, DRY, FILLED, HUMIDITY, MISSING, P, R, READ, T, W};
 use super::vapour;
 
 #[derive(Clone, Copy, Debug, PartialEq)]
@@ -65,17 +65,24 @@ fn mean(sheet: &Sheet, value: impl Fn(&[Cell; 9]) -> (Cell, Option<i32>)) -> Mea
 
 /// R of slot 8 over 24 hours, else the sum of two halves.
 fn rain(block: &[u8], sheet: &Sheet) -> Option<i32> {
-    let amount = |slot: usize| sheet[slot][R].get();
-    let hours = |slot: usize| store::head(block, slot).tr;
-    let half = |middle: usize, end: usize| match (hours(middle), hours(end)) {
-        (_, 2) => amount(end),
-        (1, 1) => Some(amount(middle)? + amount(end)?),
-        _ => None,
-    };
-    if hours(8) == 4 {
-        return amount(8);
+    if store::head(block, 8).tr == 4 {
+        return sheet[8][R].get();
     }
-    Some(half(2, 4)? + half(6, 8)?)
+    Some(half(block, sheet, 4)? + half(block, sheet, 8)?)
+}
+
+/// The rain of the half that ends in a slot. "A half that ends in a slot with iR 3, R 0 and tR 2 is the R of the slot six
+/// hours before where that slot has tR 1" (document 02, S-5), and so absent where that R is missing.
+pub fn half(block: &[u8], sheet: &Sheet, end: usize) -> Option<i32> {
+    let before = end - 2;
+    let amount = |slot: usize| sheet[slot][R].get();
+    let [six_hours_before, at_end] = [before, end].map(|slot| store::head(block, slot));
+    match (six_hours_before.tr, at_end.tr) {
+        (1, 2) if at_end.ir == DRY && amount(end) == Some(0) => amount(before),
+        (_, 2) => amount(end),
+        (1, 1) => Some(amount(before)? + amount(end)?),
+        _ => None,
+    }
 }
 
 /// The earliest slot of 0 to 7 whose T no other beats.

@@ -65,7 +65,7 @@ pub fn file(store: &mut [u8], text: &[u8], rank: u8) -> Result<(), Refusal> {
     let Some(observation) = report.observation else { return Ok(()) };
     let block = store::block_mut(store, index);
     check_rank(store::head(block, slot), rank)?;
-    let (head, cells): (Head, [Cell; 9]) = values::slot(report.iw, &observation, rank);
+    let (head, cells): (Head, [Cell; 9]) = values::slot(slot, report.iw, &observation, rank);
     store::put_slot(block, slot, head, &cells);
     store::set_settled(store, index, 0);
     Ok(())

@@ -29,6 +29,9 @@ pub const FILLED: u8 = 3;
 /// A humidity in percent, in D's cell (document 02, S-2).
 pub const HUMIDITY: u8 = 4;
 
+/// The iR of a station that has had no rain and drops group 6 (document 02, S-5).
+pub const DRY: u8 = 3;
+
 /// Ranks of a report: an ordinary one's, then 1 to 24 for CCA to CCX (document 02, S-3).
 pub const ORDINARY: u32 = 0;
 pub const HIGHEST_RANK: u32 = 24;

@@ -1,19 +1,23 @@
 //! "Values": a slot's head and its nine raw cells from the groups of a report.
 
 use super::report::{Group, Observation};
-use super::store::{Cell, Head};
+use super::store::{Cell, Head, DRY};
 
 /// A number of digits; none where a `/` stands among them.
 pub fn number(digits: &[u8]) -> Option<i32> {
     digits.iter().try_fold(0, |sum, byte| byte.is_ascii_digit().then(|| 10 * sum + i32::from(byte - b'0')))
 }
 
-/// The head and the raw cells that an accepted report of a rank leaves.
-pub fn slot(iw: u8, report: &Observation, rank: u8) -> (Head, [Cell; 9]) {
-    let rain = rain(report.section1[6].or(report.section3[6]));
+/// The head and the raw cells that an accepted report of a rank leaves in a slot.
+pub fn slot(slot: usize, iw: u8, report: &Observation, rank: u8) -> (Head, [Cell; 9]) {
+    let ir = rain_indicator(report.visibility);
+    let rain = match report.section1[6].or(report.section3[6]) {
+        Some(group) => rain(group),
+        None => dry(ir, slot),
+    };
     let head = Head {
         filed: 1,
-        ir: rain_indicator(report.visibility),
+        ir,
         tr: rain.map_or(0, |(_, tr)| tr),
         dd: wind_direction(report.wind),
         rank,
@@ -109,11 +113,21 @@ pub fn visibility(vv: i32) -> Option<i32> {
     }
 }
 
-/// 6RRRtR: tenths of mm, and tR. Nothing where R is missing.
-fn rain(group: Option<Group>) -> Option<(i32, u8)> {
-    let group = group?;
+/// 6RRRtR: tenths of mm, and tR. Nothing where R is missing, whatever iR is: "A group 6 that is present wins over iR,
+/// even if its value is missing" (document 02, S-5).
+fn rain(group: Group) -> Option<(i32, u8)> {
     let amount = rain_amount(number(&group[1..4])?)?;
     Some((amount, number(&group[4..]).unwrap_or(0) as u8))
+}
+
+/// The same without a group 6: "where R is absent from the report and iR is 3, R reads as 0, with tR 2 at slots 0, 4 and
+/// 8 and tR 1 at slots 2 and 6; at other slots it stays missing" (document 02, S-5).
+pub fn dry(ir: u8, slot: usize) -> Option<(i32, u8)> {
+    match (ir, slot) {
+        (DRY, 0 | 4 | 8) => Some((0, 2)),
+        (DRY, 2 | 6) => Some((0, 1)),
+        _ => None,
+    }
 }
 
 /// RRR, tenths of mm.

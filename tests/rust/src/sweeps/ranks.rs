@@ -1,6 +1,6 @@
 //! Sweeps of the ranks of reports (document 02, S-3): slots filed at each rank, and calls at each rank.
 
-use super::{lend, settled, two, Take, ASK_SECOND, STATION, STATIONS, TWO};
+use super::{lend, settled, two, Take, ASK_SECOND, STATION, STATIONS, TIMES, TWO};
 use crate::generate::stores::Edits;
 use crate::generate::{Call, Step};
 use crate::reference::layout::{Record, FILED, RANK, SETTLED, SPARE};
@@ -44,10 +44,9 @@ pub fn heads_of_a_store(take: Take) {
 /// In every slot: a report with every value, settled and read; then one that differs in all, or has no value, read;
 /// settled and read.
 pub fn pairs(take: Take) {
-    let times = ["1106", "1109", "1112", "1115", "1118", "1121", "1200", "1203", "1206"];
     let file = |text: &str, rank| Call::File { text: text.into(), rank };
     let settle = [Call::Settle { station: STATION }];
-    for (slot, time) in (0..).zip(times) {
+    for (slot, time) in (0..).zip(TIMES) {
         let full = format!("AAXX {time}1 40001 12360 62704 10103 20071 40132 60042 333 10120 20080=");
         let others = [
             format!("AAXX {time}4 40001 /1456 81312 11012 29080 69901 333 10095="),

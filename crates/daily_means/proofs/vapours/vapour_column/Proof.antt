@@ -7,7 +7,8 @@ use borrow.Author.Needs.{needs}
 use Rattle.laws.proofs.Fill as Fill
 use Rattle.laws.proofs.Fill.{Done}
 use Rattle.laws.proofs.Tables.{getD-table, is-table}
-use Rattle.quality.proofs.Columns.{length-cells}
+use Rattle.quality.proofs.Columns.{Nine, length-cells}
+use Rattle.quality.proofs.InPlace.{filled-more}
 use Rattle.quality.specs.Cell.{Cell, none, slot}
 use Rattle.quality.specs.Coded.{cells}
 use Rattle.quality.specs.Elements.{dewPoint}
@@ -18,7 +19,7 @@ use Rattle.daily_means.proofs.vapours.vapour_column.Statement.{statemen
 use Rattle.daily_means.proofs.vapours.vapour_column.Tie as tie
 
 abbrev Inv-loop : tie.InvT-loop
-Inv-loop d b pressures r₀ k₀ r k = Done (λ j. vapourAt (slot (cells b) j) (slot (cells d) j)) none 9 (cells r) k
+Inv-loop d b pressures r₀ k₀ r k = Done (λ j. vapourAt (slot (cells b) j) (slot (cells d) j)) none 9 (cells r) k × Nine r
 
 abbrev μ-loop : tie.MeasureT-loop
 μ-loop d b pressures r₀ k₀ r k = 9 - k
@@ -32,12 +33,15 @@ vapour-cell-requires c κs =
       at-slot (p .before .before .bases .result) (p .pressures .result) (l .loop .k) _ _ (p .pressures .ensures) (c .before .before .at .ensures) (search needs) (search needs),
     )
 
+loop-holds : tie.Need-loop-holds Inv-loop μ-loop
+loop-holds c = (Fill.none _ _ _ _ (length-cells _), record { values = search needs; states = search needs; flags = search needs })
+
 loop-again : tie.Need-loop-again Inv-loop μ-loop
 loop-again c =
-    let x = c .before in
-    let i = x .before .before .before .before .before in
-    rw (c .put .ensures)
-    (Fill.more _ (i .loop .inv) (search needs) (x .vapour-cell .ensures ∙ ap₂ vapourAt (x .before .before .before .at .ensures) (x .before .before .at2 .ensures)))
+    let i = c .before .before .before .before .before in
+    let x = c .vapour-cell .result in
+    filled-more (i .loop .r) (i .loop .k) (x .state) (x .flag) (x .value) _ (i .loop .inv) (search needs)
+    (c .vapour-cell .ensures ∙ ap₂ vapourAt (c .before .before .before .at .ensures) (c .before .before .at2 .ensures))
 
 -- each slot's basis is the one that `bases` gave
 returns : tie.Need-returns Inv-loop μ-loop
@@ -46,8 +50,8 @@ returns c =
     let i = c .before in
     let b = i .before .before .before in
     let d = b .before .args .d in
-    is-table 9 (λ k. vapourCell (slot (cells (b .before .args .t)) k) (slot (cells d) k)) (cells (i .loop .r)) none (i .loop .inv .long)
-    (λ k l. i .loop .inv .past k (search needs)
+    is-table 9 (λ k. vapourCell (slot (cells (b .before .args .t)) k) (slot (cells d) k)) (cells (i .loop .r)) none (i .loop .inv .0 .long)
+    (λ k l. i .loop .inv .0 .past k (search needs)
     ∙ ap (λ (x : Cell). vapourAt x (slot (cells d) k)) (ap (λ (xs : List Cell). slot xs k) (b .bases .ensures) ∙ getD-table 9 _ k none l))
 
 pub vapour-column-spec : {M : Type 1} → statement M
@@ -58,13 +62,16 @@ vapour-column-spec =
     μ-loop
     (λ c κs. search needs)
     (λ c κs. search needs)
-    (λ c. Fill.none _ _ _ _ (length-cells _))
+    loop-holds
     (λ c κs. search needs)
     (λ c κs. search needs)
     (λ c. search needs)
     (λ c. search needs)
     vapour-cell-requires
-    (λ c κs. search needs)
+    (λ c. search needs)
+    (λ c. search needs)
+    (λ c. search needs)
+    (λ c. search needs)
     (λ c. search needs)
     (λ c. search needs)
     loop-again

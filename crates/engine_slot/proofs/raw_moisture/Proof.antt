@@ -1,9 +1,9 @@
--- `engine_filing::raw_moisture` meets its contract.
+-- `engine_slot::raw_moisture` meets its contract.
 -- Assumes nothing.
 use borrow.Author.Needs.{needs}
 use Rattle.laws.proofs.Differences.{from-zero}
-use Rattle.engine_filing.proofs.raw_moisture.Statement.{statement}
-use Rattle.engine_filing.proofs.raw_moisture.Tie as tie
+use Rattle.engine_slot.proofs.raw_moisture.Statement.{statement}
+use Rattle.engine_slot.proofs.raw_moisture.Tie as tie
 
 returns : tie.Need-returns
 returns c = rw (c .before .enum-told .given .1) (c .raw-cell .ensures)
