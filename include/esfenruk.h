@@ -1,5 +1,5 @@
 /* The calls on a store of one day, for C. Link libesfenruk.a (`rt staticlib esfenruk`).
-   Each call on a store returns 0 or the refusal's number (1 to 13); a refusal changes no byte of the store and of the arrays. */
+   Each call on a store returns 0 or the refusal's number (1 to 14); a refusal changes no byte of the store and of the arrays. */
 #ifndef ESFENRUK_H
 #define ESFENRUK_H
 
@@ -22,13 +22,22 @@ uint32_t esfenruk_open(uint8_t *store, size_t store_length, uint32_t year, uint3
 
 /* Files a report at a rank: 0, or 9, 13 (the rank is above 24), 1 to 7, 13 (it is below that of the report in the slot), 8 (the
    slot is filed already with this rank). A higher rank replaces the slot, head and values, and the station is no longer settled.
-   NIL is accepted at any rank up to 24 and changes nothing.
+   NIL is accepted at any rank up to 24 and changes nothing. A report does not touch a settling under way (below).
    A report with iR 3 and no group 6 is a dry station's: R is 0, for 12 hours at slots 0, 4 and 8 and for 6 hours at slots 2
    and 6, and missing at the others. In the day line a shower reported at slot 2 or 6 still counts. */
 uint32_t esfenruk_file(uint8_t *store, size_t store_length, const uint8_t *text, size_t text_length, uint32_t rank);
 
-/* Settles a station: 0, or 9, 6. */
+/* Settles a station: 0, or 9, 6. A settling under way is dropped. */
 uint32_t esfenruk_settle(uint8_t *store, size_t store_length, uint32_t station);
+
+/* Settling in portions, a call at a time with other calls in between: begin, then four steps, which do range, internal, time and
+   fill. They leave the bytes that esfenruk_settle leaves. Reports may be filed meanwhile: the settling goes on with the values
+   that the station had at begin, and after the fourth step the station is settled if no report but NIL was accepted for it since.
+   Until then its cells and its day line are refused 11.
+   begin: 0, or 9, 6. It starts anew where a settling is under way.
+   step: 0, or 9, 6, 14 (no settling is under way). */
+uint32_t esfenruk_begin(uint8_t *store, size_t store_length, uint32_t station);
+uint32_t esfenruk_step(uint8_t *store, size_t store_length, uint32_t station);
 
 /* One checked cell, by element (0 to 8: T, D, P, W, C, V, R, X, M) and slot (0 to 8): 0, or 9, 6, 12, 11.
    out: state (0 missing, 1 read, 2 corrected, 3 filled, 4 a relative humidity in percent, in D's cells alone), flag (0 none,

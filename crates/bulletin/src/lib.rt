@@ -9,6 +9,7 @@ ghost use Rattle.store_layout.specs.Sound.{sound};
 ghost use Rattle.store_layout.specs.Valid.{isRank};
 ghost use Rattle.bulletin_text.specs.Pieces.{parted};
 ghost use Rattle.bulletin_text.specs.Rebuilt.{heading};
+ghost use Rattle.bulletin.specs.Filings.{AsCalls};
 ghost use Rattle.bulletin.specs.Forms.{SameBulletins};
 ghost use Rattle.bulletin.specs.Bulletin.{Filed, filings, atFirst, Tallied, Ready, result, Gave};
 use bulletin_text::Heading;
@@ -128,6 +129,11 @@ pub fn bulletin(store: &mut [u8], text: &[u8], rank: u32) -> BulletinReply
         }
     }
 }
+
+// A bulletin leaves what the filings of its reports leave.
+pub fn as_calls()
+    ensures { λ _. ⌜ AsCalls ⌝ }
+{}
 
 // In any two byte forms of a store a bulletin gives the same answer and leaves corresponding stores.
 pub fn same_bulletins()

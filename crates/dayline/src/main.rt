@@ -1,32 +1,11 @@
 // Reads a day's reports from standard input and prints the day line of each station. The first line has year, month and day, then a
 // number and a climate row for each station; each report after it is cut after its `=`. The input may be of any length: it is read in
 // pieces. All is printed at the end, so that an input which cannot be read to its end prints no day line.
-ghost use Prim.Native.Nat.{_≤_};
-ghost use mathlib.Core.Path.{_≡_};
-ghost use lib.ListN.{length};
-ghost use Rattle.store_layout.specs.Layout.{storeLength};
-ghost use Rattle.dayline_input.specs.Input.{Placed};
-use dayline_day::run_day;
-use dayline_filing::open;
+use dayline_day::run;
 use dayline_input::first_line;
-use dayline_text::first_line::Opening;
 use dayline_text::first_line::opened;
 use store_numbers::at::store_length;
 use store_numbers::at::store_space;
-
-// The day of the stations that the first line names.
-fn run(store: &mut [u8], piece: &mut [u8], from: usize, got: usize, o: Opening) -> bool
-    requires { ⌜ Placed (now piece) from got ⌝ }
-    requires { ⌜ o .count ≤ 32 ⌝ }
-    requires { ⌜ length (now store) ≡ storeLength (o .count) ⌝ }
-{
-    if !open(store, o) {
-        return io::write_all(libc::STDOUT_FILENO, b"open 10\n");
-    }
-    let n = o.count;
-    let stations = o.stations;
-    run_day(store, piece, from, got, &stations[..n])
-}
 
 // The whole program over a buffer for the pieces of the input: whether all was read and written.
 fn whole(piece: &mut [u8]) -> bool {

@@ -1,13 +1,19 @@
 // A day over an open store, for the program `dayline`: its reports read in pieces and filed, then the stations' lines printed.
+ghost use mathlib.Core.Path.{_≡_};
+ghost use Prim.Native.Nat.{_≤_};
+ghost use lib.ListN.{length};
+ghost use Rattle.store_layout.specs.Layout.{storeLength};
 ghost use Rattle.dayline_filing.specs.Filing.{Room};
 ghost use Rattle.dayline_input.specs.Input.{Placed};
 use dayline_filing::Progress;
 use dayline_filing::begin;
 use dayline_filing::feed;
+use dayline_filing::open;
 use dayline_filing::station_text;
 use dayline_filing::tail;
 use dayline_input::read;
 use dayline_print::refused_text;
+use dayline_text::first_line::Opening;
 
 // ---- the input
 
@@ -84,13 +90,7 @@ fn print_all(store: &mut [u8], stations: &[u32]) -> bool {
 // ---- the day
 
 // The day over an open store: whether all was read and written.
-pub fn run_day(
-    store: &mut [u8],
-    piece: &mut [u8],
-    from: usize,
-    got: usize,
-    stations: &[u32],
-) -> bool
+fn run_day(store: &mut [u8], piece: &mut [u8], from: usize, got: usize, stations: &[u32]) -> bool
     requires { ⌜ Placed (now piece) from got ⌝ }
 {
     let told = reports(store, piece, from, got);
@@ -103,4 +103,18 @@ pub fn run_day(
     let mut out = [0u8; 160];
     let n = refused_text(&mut out, told.refused);
     io::write_all(libc::STDOUT_FILENO, &out[..n])
+}
+
+// The day of the stations that the first line names.
+pub fn run(store: &mut [u8], piece: &mut [u8], from: usize, got: usize, o: Opening) -> bool
+    requires { ⌜ Placed (now piece) from got ⌝ }
+    requires { ⌜ o .count ≤ 32 ⌝ }
+    requires { ⌜ length (now store) ≡ storeLength (o .count) ⌝ }
+{
+    if !open(store, o) {
+        return io::write_all(libc::STDOUT_FILENO, b"open 10\n");
+    }
+    let n = o.count;
+    let stations = o.stations;
+    run_day(store, piece, from, got, &stations[..n])
 }

@@ -1,8 +1,9 @@
-// The calls on a store of one day: open, file, settle, cell, day. No call has a `requires`: each answers on every buffer and argument, and
+// The calls on a store of one day: open, file, settle, begin, step, cell, day. No call has a `requires`: each answers on every buffer and argument, and
 // its contract gives the whole answer and every byte of the store at exit.
 ghost use mathlib.Core.Path.{_≡_};
 ghost use Rattle.rules.specs.Calls as Calls;
 ghost use Rattle.engine_answers.specs.Replies.{reply, cellReply, SaysDay, Did, openOutcome};
+ghost use Rattle.rules.specs.Step as Step;
 ghost use Rattle.rules.specs.Step.{step};
 use engine_answers::CellReply;
 use engine_answers::DayReply;
@@ -53,6 +54,31 @@ pub fn settle(store: &mut [u8], station: u32) -> Reply
             engine_settling::settle_at(store, index);
             Reply::Accepted
         }
+    }
+}
+
+// A settling in portions begun, whatever there was of one: refused 9, 6.
+pub fn begin(store: &mut [u8], station: u32) -> Reply
+    ensures { λ r. ⌜ Did (step (Calls.begin station) (now (store .entry))) (reply r) (now (store .exit)) ⌝ }
+{
+    match locate(store, station) {
+        Located::Unsound => Reply::Refused(9),
+        Located::Absent => Reply::Refused(6),
+        Located::At(index) => {
+            engine_settling::begin_at(store, index);
+            Reply::Accepted
+        }
+    }
+}
+
+// The step of it that is due, one of range, internal, time and fill: refused 9, 6, 14.
+pub fn step(store: &mut [u8], station: u32) -> Reply
+    ensures { λ r. ⌜ Did (Step.step (Calls.step station) (now (store .entry))) (reply r) (now (store .exit)) ⌝ }
+{
+    match locate(store, station) {
+        Located::Unsound => Reply::Refused(9),
+        Located::Absent => Reply::Refused(6), // before 14
+        Located::At(index) => engine_settling::step_at(store, index),
     }
 }
 

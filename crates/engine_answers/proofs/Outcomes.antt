@@ -11,8 +11,9 @@ use Rattle.store_layout.specs.Sound.{sound}
 use Rattle.store_layout.specs.Index.{Index, nowhere, index, indexIn, numbers}
 use Rattle.store_layout.specs.Updates.{withStation}
 use Rattle.store_soundness.proofs.Locations.{Searched}
-use Rattle.rules.specs.Calls.{Call, settle, cell, day, refused, accepted, Request, settling, giveCell, giveDay, Ask, named, ask}
-use Rattle.rules.specs.Rules.{rule, settledStation, cellOf, dayOf}
+use Rattle.rules.specs.Calls as calls
+use Rattle.rules.specs.Calls.{Call, settle, begin, cell, day, refused, accepted, Request, settling, beginning, stepping, giveCell, giveDay, Ask, named, ask}
+use Rattle.rules.specs.Rules.{rule, settledStation, begunStation, cellOf, dayOf}
 use Rattle.rules.specs.Reaction.{dateOf, placed, at}
 use Rattle.rules.specs.Step.{unchanged, outcomeIn, after, asked, step}
 use Rattle.rules.proofs.Forms as Forms
@@ -48,6 +49,13 @@ module _ (s : List ℕ) (x i : ℕ) (h : Searched s x (index i)) where
   pub settle-step : step (settle x) s ≡ record { answer = accepted; store = encode (withStation i (settledStation (dateOf (decode s)) (stationAt (decode s .stations) i)) (decode s)) }
   unfolding rule
   settle-step = step-at (settle x) settling refl
+
+  pub begin-step : step (begin x) s ≡ record { answer = accepted; store = encode (withStation i (begunStation (stationAt (decode s .stations) i)) (decode s)) }
+  unfolding rule
+  begin-step = step-at (begin x) beginning refl
+
+  pub step-step : step (calls.step x) s ≡ after (rule (dateOf (decode s)) stepping (stationAt (decode s .stations) i)) i (decode s) s
+  step-step = step-at (calls.step x) stepping refl
 
   pub cell-step : (e k : ℕ) → step (cell x e k) s ≡ unchanged (cellOf e k (stationAt (decode s .stations) i)) s
   unfolding rule

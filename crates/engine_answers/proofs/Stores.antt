@@ -11,7 +11,7 @@ use Rattle.store_layout.specs.Model.{Block, Station, Store, stationAt}
 use Rattle.store_layout.specs.Valid.{ValidStation, ValidStore}
 use Rattle.store_layout.specs.Layout.{word, wordBytes, countAt, headerLength, blockLength, entryAt, settledIn, blockAt, blockBytes, decodeBlock, decodeStation, decode, encode}
 use Rattle.store_layout.specs.Framed.{Bytes, Framed}
-use Rattle.store_layout.specs.Updates.{withChecked, withBlock, withStation}
+use Rattle.store_layout.specs.Updates.{withChecked, withCopies, withBlock, withStation}
 use Rattle.store_layout.proofs.Bytes.{bytes-part}
 use Rattle.store_layout.proofs.Parts.{length-part}
 use Rattle.store_layout.proofs.Stores.{stations-count, station-at}
@@ -91,7 +91,7 @@ module _ (s : List ℕ) (g : Good s) where
 
 -- ---- the station that settling makes, as the code makes it
 pub settled-as : (d : Date) (t : Station) (row : ℕ) (isWarm : Bool) (b x : Block) → row ≡ t .row → isWarm ≡ warm (d .month) → b ≡ t .block
-    → x ≡ withChecked (settled row isWarm (directions b) (b .raw)) b → withBlock x 1 t ≡ settledStation d t
+    → x ≡ withCopies (λ h. 0) (withChecked (settled row isWarm (directions b) (b .raw)) b) → withBlock x 1 t ≡ settledStation d t
 settled-as d t row isWarm b x p q r e =
-    ap (λ (y : Block). withBlock y 1 t) (e ∙ (λ i. withChecked (settled (p i) (q i) (directions (r i)) (r i .raw)) (r i)))
+    ap (λ (y : Block). withBlock y 1 t) (e ∙ (λ i. withCopies (λ h. 0) (withChecked (settled (p i) (q i) (directions (r i)) (r i .raw)) (r i))))
     ∙ sym (settled-at-once d t)

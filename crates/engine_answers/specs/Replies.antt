@@ -18,7 +18,7 @@ use Rattle.engine_answers.specs.declared.DayReply.the-variants as ofDay
 use Rattle.rules.specs.Calls.{Answer, refused, accepted, aCell, onRefused, onDay}
 use Rattle.rules.specs.Step.{Outcome}
 
--- of open, file and settle
+-- of open, file, settle, begin and step
 abbrev pub reply : Reply → Answer
 reply plain.Accepted = accepted
 reply (plain.Refused n) = refused n

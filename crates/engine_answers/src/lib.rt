@@ -3,7 +3,7 @@ ghost use Rattle.store_layout.specs.Form.{AnyTwoForms};
 ghost use Rattle.engine_answers.specs.Forms.{SameOpens};
 use daily::DayLine;
 
-// Of open, file and settle.
+// Of open, file, settle, begin and step.
 pub enum Reply {
     Accepted,
     Refused(u32),

@@ -22,7 +22,7 @@ use Rattle.store_layout.specs.Valid.{isRank}
 use Rattle.store_layout.specs.Updates.{withSlot, withBlock, withStation}
 use Rattle.synop_contents.specs.declared.Indicators.{Indicators}
 use Rattle.rules.specs.Calls.{Answer, refused, accepted, file, Ask, unnamed, named, denied, askFile, deny}
-use Rattle.rules.specs.Rules.{Effect, keeps, makes, filedHead, filedCells, filed, fileAt}
+use Rattle.rules.specs.Rules.{Effect, keeps, makes, filedHead, filedCells, reported, filed, fileAt}
 use Rattle.rules.specs.Step.{Outcome, unchanged, after, asked, step}
 use Rattle.synop.specs.Report.{report}
 use Rattle.engine_answers.specs.Replies.{Did}
@@ -84,8 +84,11 @@ module _ (k rank : ℕ) (head : Indicators) (values : List Value) (t : Station) 
     pub free : (old .filed ≡ 1 → ⊥) → fileAt k rank head values t ≡ makes (filed k rank head values t)
     free f = same-as false (ne-eqb (old .filed) 1 f)
 
-pub filed-as : (k rank : ℕ) (head : Indicators) (values : List Value) (t : Station) (b x : Block) → b ≡ t .block
-    → x ≡ withSlot k (filedHead k rank head) (filedCells k head values) b → withBlock x 0 t ≡ filed k rank head values t
+pub filed-as : (k rank : ℕ) (head : Indicators) (values : List Value) (t : Station) (n m : ℕ) (b x : Block) → n ≡ t .settled → m ≡ reported n
+    → b ≡ t .block → x ≡ withSlot k (filedHead k rank (headOf b k .copy) head) (filedCells k head values) b
+    → withBlock x m t ≡ filed k rank head values t
 unfolding filed
-filed-as k rank head values t b x r e =
-    ap (λ (y : Block). withBlock y 0 t) (e ∙ ap (withSlot k (filedHead k rank head) (filedCells k head values)) r)
+filed-as k rank head values t n m b x p q r e =
+    ap₂ (λ (y : Block) (o : ℕ). withBlock y o t)
+    (e ∙ ap (λ (c : Block). withSlot k (filedHead k rank (headOf c k .copy) head) (filedCells k head values) c) r)
+    (q ∙ ap reported p)

@@ -3,7 +3,7 @@ ghost use mathlib.Core.Path.{_≡_};
 ghost use Prim.Native.Nat.{ℕ, _<_};
 ghost use Rattle.calendar.specs.Slots.{slotOf};
 ghost use lib.ListN.{length};
-ghost use Rattle.store_layout.specs.Model.{Station, stationAt};
+ghost use Rattle.store_layout.specs.Model.{Station, headOf, stationAt};
 ghost use Rattle.store_layout.specs.Layout.{blockLength, countAt, word, decodeBlock, decode};
 ghost use Rattle.store_layout.specs.Updates.{withSlot};
 ghost use Rattle.synop_contents.specs.Contents.{listed};
@@ -11,10 +11,12 @@ ghost use Rattle.synop.specs.Report.{report};
 ghost use Rattle.rules.specs.Calls.{named, takeNil, take, askFile};
 ghost use Rattle.engine_answers.specs.Good.{Good};
 ghost use Rattle.engine_answers.specs.Replies.{reply, Did};
+ghost use Rattle.rules.specs.Rules as rules;
 ghost use Rattle.rules.specs.Rules.{keeps, makes, filedHead, filedCells, filed, fileAt, nilIn, fileIn};
 ghost use Rattle.rules.specs.Step.{after, asked};
 use calendar::Slot;
 use engine_answers::Reply;
+use store_block::block::head_of;
 use store_block::block::put_slot;
 use store_numbers::at::BLOCK_LENGTH;
 use store_soundness::find::Located;
@@ -23,13 +25,28 @@ use synop_contents::Identification;
 use synop_contents::Indicators;
 use synop_contents::Values;
 
-// A slot's head and raw cells replaced.
+// A slot's head and raw cells replaced; its copy of dd stays, which a settling under way reads.
 fn put_report(block: &mut [u8], k: usize, rank: u8, head: Indicators, values: Values)
     requires { ⌜ (length (now block) ≡ blockLength) × (k < 9) ⌝ }
-    ensures { λ _. ⌜ decodeBlock (now (block .exit)) ≡ withSlot k (filedHead k rank head) (filedCells k head (listed values)) (decodeBlock (now (block .entry))) ⌝ }
+    ensures { λ _. ⌜ decodeBlock (now (block .exit)) ≡ withSlot k (filedHead k rank (headOf (decodeBlock (now (block .entry))) k .copy) head) (filedCells k head (listed values)) (decodeBlock (now (block .entry))) ⌝ }
 {
-    let h = engine_slot::slot_head(k, rank, head);
+    let old = head_of(block, k);
+    let h = engine_slot::slot_head(k, rank, old.copy, head);
     put_slot(block, k, h, engine_slot::raw_cells(k, head, values));
+}
+
+// The settled number once a report was accepted: none is settled any more, and a settling under way goes on.
+fn reported(settled: u16) -> u16
+    requires { ⌜ settled < 10 ⌝ }
+    ensures { λ r. ⌜ r ≡ rules.reported settled ⌝ }
+{
+    if settled < 2 {
+        return 0;
+    }
+    if settled < 6 {
+        return settled + 4;
+    }
+    settled
 }
 
 // A report of a rank written to slot k of the station at an index, whatever the slot holds. The station is no longer settled.
@@ -44,10 +61,11 @@ fn put_filed(
     requires { ⌜ Good (now store) × (index < word (now store) countAt) × (k < 9) ⌝ }
     ensures { λ r. ⌜ Did (after (makes (filed k rank head (listed values) (stationAt (decode (now (store .entry)) .stations) index))) index (decode (now (store .entry))) (now (store .entry))) (reply r) (now (store .exit)) ⌝ }
 {
+    let settled = store_entries::settled_of(store, index);
     let a = store_entries::block_start(store, index);
     let b = a + BLOCK_LENGTH;
     put_report(&mut store[a..b], k, rank, head, values);
-    store_entries::set_settled(store, index, 0);
+    store_entries::set_settled(store, index, reported(settled));
     Reply::Accepted
 }
 
@@ -66,7 +84,7 @@ fn file_at(
 {
     let a = store_entries::block_start(store, index);
     let b = a + BLOCK_LENGTH;
-    let old = store_block::block::head_of(&store[a..b], k);
+    let old = head_of(&store[a..b], k);
     if rank < old.rank {
         return Reply::Refused(13);
     }

@@ -15,7 +15,7 @@ use store_block::block::cell_of;
 use store_block::block::heads_of;
 use store_block::block::sheet_of;
 use store_entries::block_start;
-use store_entries::is_settled;
+use store_entries::settled_of;
 use store_numbers::at::BLOCK_LENGTH;
 
 // One checked cell of the station at an index.
@@ -27,7 +27,7 @@ pub fn give_cell(store: &[u8], index: usize, element: u32, slot: u32) -> CellRep
     if !within {
         return CellReply::Refused(12);
     }
-    if !is_settled(store, index) {
+    if settled_of(store, index) != 1 {
         return CellReply::Refused(11);
     }
     let a = block_start(store, index);
@@ -45,7 +45,7 @@ pub fn give_day(store: &[u8], index: usize) -> DayReply
     requires { ⌜ Good (now store) × (index < word (now store) countAt) ⌝ }
     ensures { λ r. ⌜ SaysDay r (dayOf (stationAt (decode (now (store .entry)) .stations) index)) ⌝ }
 {
-    if !is_settled(store, index) {
+    if settled_of(store, index) != 1 {
         return DayReply::Refused(11);
     }
     let a = block_start(store, index);

@@ -94,9 +94,9 @@ fn filed_rain(k: usize, h: Indicators, rain: Value) -> Value
     rain
 }
 
-// What filing a report of a rank in slot k puts there: the slot's head.
-pub fn slot_head(k: usize, rank: u8, indicators: Indicators) -> SlotHead
-    ensures { λ r. ⌜ r ≡ filedHead k rank indicators ⌝ }
+// What filing a report of a rank in slot k puts there: the slot's head, with the copy of dd that it has.
+pub fn slot_head(k: usize, rank: u8, copy: u8, indicators: Indicators) -> SlotHead
+    ensures { λ r. ⌜ r ≡ filedHead k rank copy indicators ⌝ }
 {
     SlotHead {
         filed: 1,
@@ -104,7 +104,7 @@ pub fn slot_head(k: usize, rank: u8, indicators: Indicators) -> SlotHead
         tr: filed_duration(k, indicators),
         dd: indicators.wind_direction,
         rank: rank,
-        spare: 0,
+        copy: copy,
     }
 }
 

@@ -7,7 +7,7 @@ use Rattle.rules.specs.Calls.{Answer, onRefused}
 use Rattle.rules.specs.Step.{Outcome}
 use Rattle.bulletin.specs.Bulletin.{Answered, whole, counts, Result}
 
--- 0 where the call is not refused, else the refusal's number ("Numbers at the gate", 1 to 12; S-3: 13)
+-- 0 where the call is not refused, else the refusal's number ("Numbers at the gate", 1 to 12; S-3: 13; S-6: 14)
 abbrev pub number : Answer → ℕ
 number a = onRefused (λ n. n) 0 a
 

@@ -1,5 +1,5 @@
-// The calls for C and Rust: open, file, settle, cell, day and bulletin. Each returns 0 or the refusal's number, and writes what it answers into the
-// caller's arrays, which a refusal leaves as they are. Beside them the generator of the vapour table, which needs no store. No call has a
+// The calls for C and Rust: open, file, settle, begin, step, cell, day and bulletin. Each returns 0 or the refusal's number, and writes what it
+// answers into the caller's arrays, which a refusal leaves as they are. Beside them the generator of the vapour table, which needs no store. No call has a
 // `requires`: each answers on every buffer and argument.
 ghost use mathlib.Core.Path.{_≡_};
 ghost use mathlib.Core.List.{[], _∷_};
@@ -72,6 +72,22 @@ pub extern "C" fn esfenruk_settle(store: &mut [u8], station: u32) -> u32
     ensures { λ r. ⌜ Returned (step (Calls.settle station) (now (store .entry))) r (now (store .exit)) ⌝ }
 {
     number_of(engine::settle(store, station))
+}
+
+// Begins to settle a station in portions: 0, or 9, 6.
+#[no_mangle]
+pub extern "C" fn esfenruk_begin(store: &mut [u8], station: u32) -> u32
+    ensures { λ r. ⌜ Returned (step (Calls.begin station) (now (store .entry))) r (now (store .exit)) ⌝ }
+{
+    number_of(engine::begin(store, station))
+}
+
+// Does the step that is due: 0, or 9, 6, 14.
+#[no_mangle]
+pub extern "C" fn esfenruk_step(store: &mut [u8], station: u32) -> u32
+    ensures { λ r. ⌜ Returned (step (Calls.step station) (now (store .entry))) r (now (store .exit)) ⌝ }
+{
+    number_of(engine::step(store, station))
 }
 
 // One checked cell, by element (0 to 8) and slot, into `out`: 0, or 9, 6, 12, 11.

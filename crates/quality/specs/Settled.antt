@@ -9,6 +9,8 @@ use Rattle.laws.specs.Table.{table}
 use Rattle.quality.specs.Cell.{Cell, slot}
 use Rattle.quality.specs.Elements.{temperature, dewPoint, pressure, wind, maximum, minimum, column}
 use Rattle.quality.specs.Limits.{limits}
+use Rattle.quality.specs.declared.step.Step.{Step}
+use Rattle.quality.specs.declared.step.Step.the-variants.{Range, Internal, Time, Fill}
 use Rattle.quality.specs.Steps.{rangeColumn, dewColumn, windColumn, maximumBelowMinimum, suspectAt, between, timeCell, fillCell}
 
 -- 1. Range, on all elements
@@ -38,6 +40,13 @@ fillOf e xs = cond (leb e wind) (between fillCell xs) xs
 
 unfoldable pub fill : List (List Cell) → List (List Cell)
 fill s = table 9 (λ e. fillOf e (column s e))
+
+-- one of the four, on a sheet of a station of that climate row in that season
+abbrev pub oneStep : Step → ℕ → Bool → List ℕ → List (List Cell) → List (List Cell)
+oneStep Range row warm dds s = range row warm s
+oneStep Internal row warm dds s = internal dds s
+oneStep Time row warm dds s = time s
+oneStep Fill row warm dds s = fill s
 
 -- the checked sheet of a station of that climate row in that season, from each slot's dd and the raw sheet
 unfoldable pub settled : ℕ → Bool → List ℕ → List (List Cell) → List (List Cell)

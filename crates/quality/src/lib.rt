@@ -5,5 +5,6 @@ pub mod head;
 pub mod internal;
 pub mod limits;
 pub mod range;
+pub mod step;
 pub mod time;
 mod value;

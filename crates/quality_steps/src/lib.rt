@@ -3,11 +3,12 @@
 ghost use mathlib.Core.Path.{_≡_};
 ghost use Prim.Native.Nat.{_<_};
 ghost use Rattle.quality.specs.Coded.{cells, sheet};
-ghost use Rattle.quality.specs.Settled.{timeOf, fillOf, range, internal, time, fill, settled};
+ghost use Rattle.quality.specs.Settled.{timeOf, fillOf, range, internal, time, fill, oneStep, settled};
 ghost use Rattle.quality.specs.Valid.{Sized, ValidSheet};
 use quality::column::Column;
 use quality::column::at;
 use quality::internal::maximum_below_minimum;
+use quality::step::Step;
 use quality_columns::dew_column;
 use quality_columns::fill_column;
 use quality_columns::range_column;
@@ -93,6 +94,20 @@ pub fn fill_all(s: [Column; 9]) -> [Column; 9]
         r[e] = fill_element(e, c);
     }
     r
+}
+
+// One of the four, on the columns of a station of that climate row in that season.
+pub fn one_step(step: Step, row: usize, warm: bool, dd: [u8; 9], s: [Column; 9]) -> [Column; 9]
+    requires { ⌜ row < 2 ⌝ }
+    requires { ⌜ ValidSheet (sheet s) ⌝ }
+    ensures { λ r. ⌜ sheet r ≡ oneStep step row warm dd (sheet s) ⌝ }
+{
+    match step {
+        Step::Range => range_all(row, warm, s),
+        Step::Internal => internal_all(dd, s),
+        Step::Time => time_all(s),
+        Step::Fill => fill_all(s),
+    }
 }
 
 // The checked columns of a station of that climate row in that season, from each slot's dd and the raw columns.

@@ -15,7 +15,7 @@ use Rattle.daily.specs.Line
 use Rattle.daily.specs.Line.{dayLine}
 use Rattle.daily.specs.Rain
 use Rattle.store_layout.specs.Model.{Station}
-use Rattle.store_layout.specs.Updates.{withSlot, withChecked, withBlock}
+use Rattle.store_layout.specs.Updates.{withSlot, withChecked, withCopies, withBlock}
 use Rattle.synop_contents.specs.declared.Indicators.{Indicators}
 use Rattle.rules.specs.Rules
 use Rattle.rules.specs.Rules.{filed, settledStation}
@@ -52,8 +52,8 @@ pub record DryDays : Type 0 where
   pub elsewhere : rain (dry 5 (dry 8 new)) ≡ none
 
 pub dry-days : DryDays
-unfolding table withSlot withChecked withBlock
-    Rules.filed Rules.copyStep Rules.rangeStep Rules.internalStep Rules.timeStep Rules.fillStep Rules.settledStation
+unfolding table withSlot withChecked withCopies withBlock
+    Rules.filed Rules.copyStep Rules.stepDone Rules.settledStation
     Steps.rangeCell Steps.dewCell Steps.windCell Steps.maximumBelowMinimum Steps.spikeCell Steps.timeCell Steps.fillCell Steps.between Steps.rangeColumn Steps.dewColumn Steps.windColumn Steps.suspectAt
     Settled.range Settled.internal Settled.timeOf Settled.time Settled.fillOf Settled.fill Line.dayLine Rain.half Rain.rainTotal
 dry-days = record { nothing = refl; shower = refl; sent = refl; discarded = refl; present = refl; elsewhere = refl }

@@ -1,6 +1,7 @@
 -- Demand 3 at work: one station, 40001, in two stores with different neighbours, and two lists of calls that agree in the calls that name
 -- it. The answers are those that document 01's example gives, then those of S-3: the report at ranks above 24, above the slot's, below it
--- and equal to it, and a NIL below it and above 24.
+-- and equal to it, and a NIL below it and above 24; then those of S-6: a step with no settling under way, and a settling in portions, once
+-- with a report in between and once with none.
 --     answers-A, answers-B      the station's answers in either run
 -- Assumes nothing.
 use mathlib.Core.Path.{_≡_, refl, sym, _∙_, ap}
@@ -44,8 +45,9 @@ use Rattle.daily.specs.Means.{absent, sum, average, vapourColumn}
 use Rattle.daily.specs.Rain
 use Rattle.store_layout.specs.Model.{Station}
 use Rattle.store_layout.specs.Opening.{canOpen, openableIn}
-use Rattle.store_layout.specs.Updates.{withSlot, withChecked, withBlock}
-use Rattle.rules.specs.Calls.{Call, file, settle, cell, day, Answer, refused, accepted, aCell, aDay, Ask, unnamed, named, denied, ranked, takeNil, take, settling, giveCell, giveDay, ask, askFile}
+use Rattle.store_layout.specs.Updates.{withSlot, withChecked, withCopies, withBlock}
+use Rattle.rules.specs.Calls as calls
+use Rattle.rules.specs.Calls.{Call, file, settle, begin, cell, day, Answer, refused, accepted, aCell, aDay, Ask, unnamed, named, denied, ranked, takeNil, take, settling, beginning, stepping, giveCell, giveDay, ask, askFile}
 use Rattle.rules.specs.Rules
 use Rattle.rules.specs.Rules.{Date}
 use Rattle.rules.specs.Step.{step}
@@ -76,10 +78,10 @@ smallText : List ℕ
 smallText = bytes "aaxx="
 
 -- what they hold
-abbrev indicators : Indicators
+abbrev pub indicators : Indicators
 indicators = record { «rain_indicator» = 1; «rain_sent» = true; «rain_duration» = 2; «wind_direction» = 27 }
 
-abbrev values : List Value
+abbrev pub values : List Value
 values =
     read (pos 103) ∷ read (pos 71) ∷ read (pos 10132) ∷ read (pos 40) ∷ read (pos 6) ∷ read (pos 100) ∷ read (pos 40) ∷ missing ∷ missing ∷ []
 
@@ -103,10 +105,24 @@ unfolding wholeText nilText neighbourText smallText bytes bytesFrom table
 reads = (refl, refl, refl, refl)
 
 -- what document 01's report asks of whom, at a rank
-abbrev sent : ℕ → Ask
+abbrev pub sent : ℕ → Ask
 sent rank = named 40001 (take 11 6 rank indicators values)
 
--- what is asked of 40001, one after the other
+-- what is asked of 40001, one after the other; the last of it for S-6
+abbrev stepAsked : Ask
+stepAsked = named 40001 stepping
+
+abbrev askedLater : List Ask
+askedLater =
+    stepAsked ∷ named 40001 beginning ∷ stepAsked ∷ sent 4 ∷ stepAsked ∷ named 40001 giveDay ∷ stepAsked ∷ stepAsked ∷ named 40001 giveDay
+    ∷ named 40001 beginning
+    ∷ stepAsked
+    ∷ stepAsked
+    ∷ stepAsked
+    ∷ stepAsked
+    ∷ named 40001 giveDay
+    ∷ []
+
 asked : List Ask
 asked =
     sent 0 ∷ named 40001 giveDay ∷ named 40001 settling ∷ named 40001 (giveCell 0 0) ∷ sent 0 ∷ named 40001 (giveCell 0 9)
@@ -119,23 +135,31 @@ asked =
     ∷ named 40001 (takeNil 11 6 1)
     ∷ denied 40001 13
     ∷ sent 3
-    ∷ []
+    ∷ askedLater
 
 -- ---- the calls
 -- the texts filed at a rank
-whole : ℕ → Call
+pub whole : ℕ → Call
 whole rank = file wholeText rank
 
-nil : ℕ → Call
+pub nil : ℕ → Call
 nil rank = file nilText rank
 
-neighbour : ℕ → Call
+pub neighbour : ℕ → Call
 neighbour rank = file neighbourText rank
 
 small : ℕ → Call
 small rank = file smallText rank
 
--- those that name 40001
+-- a step of 40001
+abbrev pub next : Call
+next = calls.step 40001
+
+-- those that name 40001, the last of them for S-6
+abbrev ownLater : List Call
+ownLater =
+    next ∷ begin 40001 ∷ next ∷ whole 4 ∷ next ∷ day 40001 ∷ next ∷ next ∷ day 40001 ∷ begin 40001 ∷ next ∷ next ∷ next ∷ next ∷ day 40001 ∷ []
+
 pub own : List Call
 own =
     whole 0 ∷ day 40001 ∷ settle 40001 ∷ cell 40001 0 0 ∷ whole 0 ∷ cell 40001 0 9 ∷ day 40001
@@ -147,9 +171,20 @@ own =
     ∷ nil 1
     ∷ nil 25
     ∷ whole 3
-    ∷ []
+    ∷ ownLater
 
 -- in between other stations', some that are not there, and a text that does not pass
+abbrev laterA : List Call
+laterA =
+    next ∷ begin 30000 ∷ begin 40001 ∷ next ∷ calls.step 30000 ∷ whole 4 ∷ settle 30000 ∷ next ∷ day 40001 ∷ next ∷ next ∷ day 40001 ∷ begin 40001
+    ∷ next
+    ∷ next
+    ∷ neighbour 0
+    ∷ next
+    ∷ next
+    ∷ day 40001
+    ∷ []
+
 pub callsA : List Call
 callsA =
     neighbour 0 ∷ whole 0 ∷ settle 50000 ∷ day 40001 ∷ small 0 ∷ settle 40001 ∷ settle 12345 ∷ cell 40001 0 0 ∷ whole 0 ∷ day 30000
@@ -166,6 +201,14 @@ callsA =
     ∷ nil 1
     ∷ nil 25
     ∷ whole 3
+    ∷ laterA
+
+abbrev laterB : List Call
+laterB =
+    next ∷ begin 40001 ∷ next ∷ whole 4 ∷ next ∷ day 40001 ∷ next ∷ begin 99999 ∷ next ∷ day 40001 ∷ begin 40001 ∷ next ∷ next ∷ next
+    ∷ calls.step 12345
+    ∷ next
+    ∷ day 40001
     ∷ []
 
 pub callsB : List Call
@@ -181,24 +224,49 @@ callsB =
     ∷ small 25
     ∷ nil 25
     ∷ whole 3
-    ∷ []
+    ∷ laterB
 
 -- whom the texts name, at any rank
-of-whole : (rank : ℕ) → names 40001 (whole rank) ≡ true
+pub of-whole : (rank : ℕ) → names 40001 (whole rank) ≡ true
 unfolding whole
 of-whole rank = named-by-text .at-any-rank wholeText rank 40001 ∙ ap (λ (r : Report). isOf r 40001) (reads .0)
 
-of-nil : (rank : ℕ) → names 40001 (nil rank) ≡ true
+pub of-nil : (rank : ℕ) → names 40001 (nil rank) ≡ true
 unfolding nil
 of-nil rank = named-by-text .at-any-rank nilText rank 40001 ∙ ap (λ (r : Report). isOf r 40001) (reads .1)
 
-of-neighbour : (rank : ℕ) → names 40001 (neighbour rank) ≡ false
+pub of-neighbour : (rank : ℕ) → names 40001 (neighbour rank) ≡ false
 unfolding neighbour
 of-neighbour rank = named-by-text .at-any-rank neighbourText rank 40001 ∙ ap (λ (r : Report). isOf r 40001) (reads .2)
 
 of-small : (rank : ℕ) → names 40001 (small rank) ≡ false
 unfolding small
 of-small rank = named-by-text .at-any-rank smallText rank 40001 ∙ ap (λ (r : Report). isOf r 40001) (reads .3)
+
+picks-A : Picks 40001 laterA ownLater
+picks-A =
+    keep refl
+    (pass refl
+    (keep refl
+    (keep refl
+    (pass refl
+    (keep (of-whole 4)
+    (pass refl
+    (keep refl
+    (keep refl
+    (keep refl (keep refl (keep refl (keep refl (keep refl (keep refl (pass (of-neighbour 0) (keep refl (keep refl (keep refl none))))))))))))))))))
+
+picks-B : Picks 40001 laterB ownLater
+picks-B =
+    keep refl
+    (keep refl
+    (keep refl
+    (keep (of-whole 4)
+    (keep refl
+    (keep refl
+    (keep refl
+    (pass refl
+    (keep refl (keep refl (keep refl (keep refl (keep refl (keep refl (pass refl (keep refl (keep refl none))))))))))))))))
 
 naming-A : naming 40001 callsA ≡ own
 unfolding callsA own
@@ -221,7 +289,7 @@ naming-A =
     (keep refl
     (pass (of-small 30)
     (keep (of-whole 3)
-    (keep refl (keep (of-whole 1) (pass (of-neighbour 24) (keep (of-nil 1) (keep (of-nil 25) (keep (of-whole 3) none)))))))))))))))))))))))
+    (keep refl (keep (of-whole 1) (pass (of-neighbour 24) (keep (of-nil 1) (keep (of-nil 25) (keep (of-whole 3) picks-A)))))))))))))))))))))))
 
 naming-B : naming 40001 callsB ≡ own
 unfolding callsB own
@@ -240,7 +308,7 @@ naming-B =
     (keep refl
     (keep (of-whole 3)
     (pass (of-neighbour 24)
-    (keep refl (keep (of-whole 1) (keep (of-nil 1) (pass (of-small 25) (keep (of-nil 25) (keep (of-whole 3) none)))))))))))))))))))
+    (keep refl (keep (of-whole 1) (keep (of-nil 1) (pass (of-small 25) (keep (of-nil 25) (keep (of-whole 3) picks-B)))))))))))))))))))
 
 -- S-3: a rank above 24 is tested before the text, so that no check of the text shows: one that fails check 1 is refused 13, as one that
 -- fails check 2, which names nobody either
@@ -253,17 +321,21 @@ unfolding small
 high-2 = (ap (λ (r : Report). ranked 24 (askFile 24 r)) (reads .3), ap (λ (r : Report). ranked 25 (askFile 25 r)) (reads .3))
 
 -- and what they ask
-asks-whole : (rank : ℕ) → ask (whole rank) ≡ ranked rank (sent rank)
+pub asks-whole : (rank : ℕ) → ask (whole rank) ≡ ranked rank (sent rank)
 unfolding whole
 asks-whole rank = ap (λ (r : Report). ranked rank (askFile rank r)) (reads .0)
 
-asks-nil : (rank : ℕ) → ask (nil rank) ≡ ranked rank (named 40001 (takeNil 11 6 rank))
+pub asks-nil : (rank : ℕ) → ask (nil rank) ≡ ranked rank (named 40001 (takeNil 11 6 rank))
 unfolding nil
 asks-nil rank = ap (λ (r : Report). ranked rank (askFile rank r)) (reads .1)
 
+pub asks-neighbour : (rank : ℕ) → ask (neighbour rank) ≡ ranked rank (named 30000 (takeNil 11 6 rank))
+unfolding neighbour
+asks-neighbour rank = ap (λ (r : Report). ranked rank (askFile rank r)) (reads .2)
+
 asked-own : map ask own ≡ asked
 unfolding own asked
-asked-own = rw (asks-whole 0, asks-whole 25, asks-whole 3, asks-whole 1, asks-nil 1, asks-nil 25)
+asked-own = rw (asks-whole 0, asks-whole 25, asks-whole 3, asks-whole 1, asks-nil 1, asks-nil 25, asks-whole 4)
 
 -- ---- the answers
 -- document 01 prints this line: "40001 - 0 0 7 0 0 74"
@@ -288,6 +360,15 @@ line =
 pub answers : List Logged → List Answer
 answers = map (λ (l : Logged). l .answer)
 
+-- a step with no settling under way; a settling with a report in between, after which the station is not settled; and one without
+abbrev repliesLater : List Answer
+repliesLater =
+    refused 14 ∷ accepted ∷ accepted ∷ accepted ∷ accepted ∷ refused 11 ∷ accepted ∷ accepted ∷ refused 11 ∷ accepted ∷ accepted ∷ accepted
+    ∷ accepted
+    ∷ accepted
+    ∷ aDay line
+    ∷ []
+
 pub replies : List Answer
 replies =
     accepted ∷ refused 11 ∷ accepted ∷ aCell (record { state = 1; flag = 0; value = pos 103 }) ∷ refused 8 ∷ refused 12 ∷ aDay line
@@ -299,7 +380,7 @@ replies =
     ∷ accepted
     ∷ refused 13
     ∷ refused 8
-    ∷ []
+    ∷ repliesLater
 
 -- the answers to what is asked, one after the other
 repliesTo : Date → Station → List Ask → List Answer
@@ -313,8 +394,8 @@ replies-asked d t (c ∷ cs) =
     ap (λ (ls : List Answer). answerOf (doneBy d (ask c) t) ∷ ls) (replies-asked d (stationOf (doneBy d (ask c) t) t) cs)
 
 replies-computed : repliesTo (date 2024 4 11) (newStation 40001 0) asked ≡ replies
-unfolding asked replies repliesTo table isDate daysIn nextDay slotOf withSlot withChecked withBlock
-    Rules.filed Rules.fileAt Rules.copyStep Rules.rangeStep Rules.internalStep Rules.timeStep Rules.fillStep Rules.settledStation Rules.cellOf Rules.dayOf Rules.rule
+unfolding asked replies repliesTo table isDate daysIn nextDay slotOf withSlot withChecked withCopies withBlock
+    Rules.filed Rules.fileAt Rules.copyStep Rules.stepDone Rules.settledStation Rules.begunStation Rules.portion Rules.cellOf Rules.dayOf Rules.rule
     Steps.rangeCell Steps.dewCell Steps.windCell Steps.maximumBelowMinimum Steps.spikeCell Steps.timeCell Steps.fillCell Steps.between Steps.rangeColumn Steps.dewColumn Steps.windColumn Steps.suspectAt
     Settled.range Settled.internal Settled.timeOf Settled.time Settled.fillOf Settled.fill
     Vapour.term Vapour.sumTo Vapour.Z Vapour.entry Vapour.pressure
@@ -326,7 +407,7 @@ pub opens-A : Opens 2024 4 11 (30000 ∷ 40001 ∷ 50000 ∷ []) (1 ∷ 0 ∷ 1 
 unfolding openableIn canOpen isDate daysIn
 opens-A = record { accepted = refl }
 
-has-A : Has (30000 ∷ 40001 ∷ 50000 ∷ []) (1 ∷ 0 ∷ 1 ∷ []) 40001 0
+pub has-A : Has (30000 ∷ 40001 ∷ 50000 ∷ []) (1 ∷ 0 ∷ 1 ∷ []) 40001 0
 has-A = record { index = 1; inside = omega arith; number = refl; climate = refl }
 
 opens-B : Opens 2024 4 11 (40001 ∷ 99999 ∷ []) (0 ∷ 0 ∷ [])

@@ -3,6 +3,7 @@
 --     holds-own      after a call that names it
 --     holds-other    after any other call
 --     records-held   its records
+--     station-held   the station that is read of the bytes
 -- Assumes nothing.
 use mathlib.Core.Path.{_≡_, refl, sym, _∙_, ap, ap₂, subst}
 use mathlib.Core.Bool.{true, false, false≢true}
@@ -26,6 +27,7 @@ use Rattle.rules.specs.Rules.{Date, Effect, keeps, makes, rule}
 use Rattle.rules.specs.Reaction.{Reaction, dateOf, placed, at}
 use Rattle.rules.specs.Step.{Outcome, outcomeIn, after, asked, step}
 use Rattle.rules.specs.Runs.{asks, names, recordsAt, records}
+use Rattle.rules.specs.Portions.{stationFor, stationIn}
 use Rattle.rules.proofs.Kept.{Kept, valid-kept, AllLawful, doneBy, kept-by}
 use Rattle.rules.proofs.Reactions.{Reacts, same, replaced, reacts}
 use Rattle.rules.proofs.Steps.{step-encoded}
@@ -99,6 +101,14 @@ module _ {d : Date} {x : ℕ} {t : Station} {s : List ℕ} (h : HoldsStation d x
 
   pub answer-own : (c : Call) → names x c ≡ true → step c s .answer ≡ answerOf (doneBy d (ask c) t)
   answer-own c e = ap (λ (o : Outcome). o .answer) (step-own c e) ∙ after-answer (doneBy d (ask c) t) (h .index) (h .model) s
+
+  -- ---- the station that is read of the bytes
+  pub station-held : stationIn x s ≡ t
+  unfolding stationIn
+  station-held =
+      ap (λ (m : Store). stationFor (indexIn (numbers m) x) m) (ap decode (h .bytes) ∙ decode-encode (h .model) (h .valid))
+      ∙ ap (λ (p : Index). stationFor p (h .model)) index-held
+      ∙ h .station
 
   -- ---- its records: the bytes of the station, whatever else the store holds
   pub records-held : records x s ≡ encodeEntry t ++ encodeBlock (t .block)

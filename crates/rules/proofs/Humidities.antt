@@ -19,7 +19,7 @@ use Rattle.daily.specs.Line.{DayLine}
 use Rattle.daily.specs.Means.{absent, mended, sum, average, vapourColumn}
 use Rattle.daily.specs.Rain
 use Rattle.store_layout.specs.Model.{Station}
-use Rattle.store_layout.specs.Updates.{withSlot, withChecked, withBlock}
+use Rattle.store_layout.specs.Updates.{withSlot, withChecked, withCopies, withBlock}
 use Rattle.synop_contents.specs.declared.Indicators.{Indicators}
 use Rattle.rules.specs.Calls.{aDay}
 use Rattle.rules.specs.Rules
@@ -61,8 +61,8 @@ line =
     }
 
 pub humid-day : dayOf (settledStation (date 2024 4 11) station) ≡ aDay line
-unfolding table withSlot withChecked withBlock
-    Rules.filed Rules.copyStep Rules.rangeStep Rules.internalStep Rules.timeStep Rules.fillStep Rules.settledStation Rules.dayOf
+unfolding table withSlot withChecked withCopies withBlock
+    Rules.filed Rules.copyStep Rules.stepDone Rules.settledStation Rules.dayOf
     Steps.rangeCell Steps.dewCell Steps.windCell Steps.maximumBelowMinimum Steps.spikeCell Steps.timeCell Steps.fillCell Steps.between Steps.rangeColumn Steps.dewColumn Steps.windColumn Steps.suspectAt
     Settled.range Settled.internal Settled.timeOf Settled.time Settled.fillOf Settled.fill
     Vapour.term Vapour.sumTo Vapour.Z Vapour.entry Vapour.pressure

@@ -20,7 +20,7 @@ pub record Kept (t u : Station) : Type 0 where
 pub kept-on : {t u w : Station} → Kept t u → (ValidStation u → Kept u w) → Kept t w
 kept-on k h = record { number = h (k .valid) .number ∙ k .number; valid = h (k .valid) .valid }
 
-pub kept-block : (b : Block) (mark : ℕ) (t : Station) → ValidStation t → ValidBlock mark b → mark ≤ 1 → Kept t (withBlock b mark t)
+pub kept-block : (b : Block) (mark : ℕ) (t : Station) → ValidStation t → ValidBlock mark b → mark ≤ 9 → Kept t (withBlock b mark t)
 unfolding withBlock
 kept-block b mark t v w l = record { number = refl; valid = valid-with-block b mark t v w l }
 

@@ -13,9 +13,12 @@ pub mod Isolation
 pub mod Requests
 pub mod Reports
 pub mod Demand3
+pub mod AtOnce
+pub mod InPortions
 pub mod Refusals
 pub mod WrongEngines
 pub mod Examples
+pub mod PortionsExamples
 pub mod FormExamples
 pub mod ProofTable
 pub mod Humidities

@@ -1,24 +1,25 @@
 -- The law that demand 3 asks of the rules, request by request: what a request makes of a valid station has the same number and is valid again.
---     lawful-nil, lawful-settling, lawful-cell, lawful-day      of themselves
+--     lawful-nil, lawful-settling, lawful-beginning, lawful-stepping, lawful-cell, lawful-day      of themselves
 --     lawful-take      a report filed, where the report fits
 --     all-lawful       all that a call can ask, where every report that passes fits
 -- Assumes nothing.
 use mathlib.Core.Path.{_≡_, refl, sym, subst}
 use mathlib.Core.Bool.{Bool, true, false, cond, _&&_, _||_}
 use mathlib.Core.List.{List, [], _∷_, map}
-use Prim.Native.Nat.{ℕ, zero, suc, _≤_, _<_}
+use Prim.Native.Nat.{ℕ, zero, suc, _+_, _≤_, _<_}
 use native.Mathlib.Omega.{arith}
-use borrow.Author.Tests.{leb-true}
-use lib.Dec.{ltb, eqb, lit≤, lit<}
+use borrow.Author.Tests.{leb-true, leb-false, le-leb}
+use lib.Dec.{leb, ltb, eqb, lit≤, lit<}
 use lib.ListN.{getD, set, List·getD-map}
-use Rattle.laws.proofs.Bools.{cond-keeps}
+use Rattle.laws.proofs.Bools.{Known, is-true, is-false, known, cond-keeps, by-cond}
 use Rattle.calendar.specs.Slots.{slotOf}
+use Rattle.calendar.proofs.Slots as slots
 use Rattle.calendar.specs.declared.Slot.{Slot}
 use Rattle.calendar.specs.declared.Slot.the-variants.{At, Nothing}
 use Rattle.synop_codes.specs.Value.{Value, missing, read, humidity, Within}
 use Rattle.store_layout.specs.Model.{Station, headOf}
-use Rattle.store_layout.specs.Valid.{ValidStation, isDirection, highestRank, isRank}
-use Rattle.store_layout.proofs.Validity.{head-whole, valid-marked, valid-with-slot}
+use Rattle.store_layout.specs.Valid.{ValidStation, isDirection, highestRank, isRank, isUnderWay}
+use Rattle.store_layout.proofs.Validity.{head-parts, head-whole, entry-parts, valid-marked, valid-with-slot}
 use Rattle.quality.specs.Cell.{none}
 use Rattle.quality.specs.Elements.{rain}
 use Rattle.quality.specs.Valid.{RawCell}
@@ -26,11 +27,11 @@ use Rattle.quality.proofs.Validity.{cell-whole, none-valid, humidity-valid}
 use Rattle.synop.specs.Report.{Report, report}
 use Rattle.synop_contents.specs.declared.Indicators.{Indicators}
 use Rattle.synop_contents.specs.declared.Identification.{Identification}
-use Rattle.rules.specs.Calls.{Call, file, settle, cell, day, Answer, refused, Request, takeNil, take, settling, giveCell, giveDay, Ask, unnamed, named, denied, ask, askFile, deny}
+use Rattle.rules.specs.Calls.{Call, file, settle, begin, step, cell, day, Answer, refused, Request, takeNil, take, settling, beginning, stepping, giveCell, giveDay, Ask, unnamed, named, denied, ask, askFile, deny}
 use Rattle.rules.specs.Dry.{isDry, dryDuration, filedDuration, filedValues}
-use Rattle.rules.specs.Rules.{Date, keeps, makes, rawCell, filedHead, filedCells, filed, fileAt, nilIn, fileIn, settledStation, rule}
+use Rattle.rules.specs.Rules.{Date, keeps, makes, rawCell, filedHead, filedCells, reported, filed, fileAt, nilIn, fileIn, settledStation, begunStation, portion, rule}
 use Rattle.rules.proofs.Kept.{Kept, kept-block, Lawful, AllLawful}
-use Rattle.rules.proofs.Settling.{kept-settled}
+use Rattle.rules.proofs.Settling.{kept-settled, kept-begun, kept-portion}
 
 -- ---- requests that keep the station
 never : {a : Answer} {u : Station} → keeps a ≡ makes u → ⊥
@@ -56,6 +57,18 @@ lawful-day d t u v q = absurd (never q)
 pub lawful-settling : Lawful settling
 unfolding rule
 lawful-settling d t u v q = let e : settledStation d t ≡ u = cc in subst (Kept t) e (kept-settled d t v)
+
+pub lawful-beginning : Lawful beginning
+unfolding rule
+lawful-beginning d t u v q = let e : begunStation t ≡ u = cc in subst (Kept t) e (kept-begun t v)
+
+pub lawful-stepping : Lawful stepping
+unfolding rule
+lawful-stepping d t u v q = go (known (isUnderWay (t .settled)))
+  where
+    go : Known (isUnderWay (t .settled)) → Kept t u
+    go (is-true w) = let e : portion d t ≡ u = cc in subst (Kept t) e (kept-portion d t w v)
+    go (is-false w) = absurd (never (rw w at q))
 
 -- ---- a report filed
 -- what a report holds can stand in a store: "iR 0 to 4, else 5; tR 0 to 9; dd 0 to 36 or 99, else 100", and each value in a cell
@@ -100,14 +113,28 @@ value-fits k h values f e l =
     (cond-keeps (Within rain) (isDry h) (cond-keeps (Within rain) (eqb (dryDuration k) 0) tt (lit≤ tt)) (f rain (lit< tt)))
     (f e l)
 
+-- S-6: a report leaves a settling under way, or none where there is none
+reported-most : (n : ℕ) → n ≤ 9 → reported n ≤ 9
+reported-most n l =
+    by-cond (λ (m : ℕ). m ≤ 9) (isUnderWay n) (λ e. by-cond (λ (m : ℕ). m ≤ 9) (leb 6 n) (λ g. l) (λ g. omega (arith, leb-false 6 n g))) (λ e. lit≤ tt)
+
+reported-under : (n : ℕ) → isUnderWay n ≡ isUnderWay (reported n)
+reported-under n = go (known (isUnderWay n)) (known (leb 6 n))
+  where
+    go : Known (isUnderWay n) → Known (leb 6 n) → isUnderWay n ≡ isUnderWay (reported n)
+    go (is-false e) g = rw e
+    go (is-true e) (is-true g) = rw (e, g, e)
+    go (is-true e) (is-false g) = rw (e, g) (sym (le-leb 2 (n + 4) (omega arith)))
+
 module _ (rank : ℕ) (r : isRank rank ≡ true) (head : Indicators) (values : List Value) (f : Fits head values) where
-  kept-filed : (k : ℕ) (t : Station) → ValidStation t → Kept t (filed k rank head values t)
+  kept-filed : (k : ℕ) (t : Station) → k < 9 → ValidStation t → Kept t (filed k rank head values t)
   unfolding filed
-  kept-filed k t v =
-      kept-block _ 0 t v
-      (valid-marked 0 _
-      (valid-with-slot k (filedHead k rank head) (filedCells k head values) (t .block) (v .block)
-      (head-whole (filedHead k rank head)
+  kept-filed k t b v =
+      let copy = headOf (t .block) k .copy in
+      kept-block _ (reported (t .settled)) t v
+      (valid-marked (reported (t .settled)) _ (reported-under (t .settled))
+      (valid-with-slot k (filedHead k rank copy head) (filedCells k head values) (t .block) (v .block)
+      (head-whole (filedHead k rank copy head)
       (record {
         filed = lit≤ tt;
         ir = f .indicator;
@@ -115,27 +142,27 @@ module _ (rank : ℕ) (r : isRank rank ≡ true) (head : Indicators) (values : L
         dd = f .direction;
         rank = leb-true rank highestRank r;
         unfiled = refl;
-        spare = refl;
+        copy = head-parts (headOf (t .block) k) (v .block .heads k b) .copy;
       }))
       (λ e l.
       subst (RawCell e) (sym (raw-at (filedValues k head values) e))
       (valid-raw e (getD (filedValues k head values) e missing) (value-fits k head values (f .value) e l)))))
-      (lit≤ tt)
+      (reported-most (t .settled) (entry-parts (v .entry) .settled-most))
 
   pub lawful-take : (yy gg : ℕ) → Lawful (take yy gg rank head values)
   unfolding rule fileAt
-  lawful-take yy gg d t u v e = at (slotOf (d .year) (d .month) (d .day) yy gg) e
+  lawful-take yy gg d t u v e = at (slotOf (d .year) (d .month) (d .day) yy gg) refl e
     where
-      free : (k : ℕ) (a b : Bool) → cond a (keeps (refused 13)) (cond b (keeps (refused 8)) (makes (filed k rank head values t))) ≡ makes u → Kept t u
-      free k true b q = absurd (never q)
-      free k false true q = absurd (never q)
-      free k false false q = let e : filed k rank head values t ≡ u = cc in subst (Kept t) e (kept-filed k t v)
+      free : (k : ℕ) → k < 9 → (a b : Bool) → cond a (keeps (refused 13)) (cond b (keeps (refused 8)) (makes (filed k rank head values t))) ≡ makes u → Kept t u
+      free k l true b q = absurd (never q)
+      free k l false true q = absurd (never q)
+      free k l false false q = let e : filed k rank head values t ≡ u = cc in subst (Kept t) e (kept-filed k t l v)
 
-      at : (k : Slot) → fileIn k rank head values t ≡ makes u → Kept t u
-      at Nothing q = absurd (never q)
-      at (At k) q =
+      at : (k : Slot) → slotOf (d .year) (d .month) (d .day) yy gg ≡ k → fileIn k rank head values t ≡ makes u → Kept t u
+      at Nothing s q = absurd (never q)
+      at (At k) s q =
           let old = headOf (t .block) k in
-          free k (ltb rank (old .rank)) (eqb (old .filed) 1 && eqb rank (old .rank)) q
+          free k (slots.named (d .year) (d .month) (d .day) yy gg k s .below) (ltb rank (old .rank)) (eqb (old .filed) 1 && eqb rank (old .rank)) q
 
 -- ---- all that a call can ask
 -- a report that a call asks to take has a rank that may stand in a store, and fits
@@ -143,6 +170,8 @@ abbrev RequestFits : Request → Type 0
 RequestFits (takeNil yy gg rank) = Unit {0}
 RequestFits (take yy gg rank head values) = (isRank rank ≡ true) × Fits head values
 RequestFits settling = Unit {0}
+RequestFits beginning = Unit {0}
+RequestFits stepping = Unit {0}
 RequestFits (giveCell e k) = Unit {0}
 RequestFits giveDay = Unit {0}
 
@@ -166,6 +195,8 @@ ask-fits bounds (file text rank) = ranked-fits (askFile rank (report text)) (isR
     go b (Report.nil h) e = tt
     go b (Report.whole h head values) e = (b, bounds .fits text h head values e)
 ask-fits bounds (settle s) = tt
+ask-fits bounds (begin s) = tt
+ask-fits bounds (step s) = tt
 ask-fits bounds (cell s e k) = tt
 ask-fits bounds (day s) = tt
 
@@ -173,6 +204,8 @@ lawful : (request : Request) → RequestFits request → Lawful request
 lawful (takeNil yy gg rank) f = lawful-nil yy gg rank
 lawful (take yy gg rank head values) f = lawful-take rank (f .0) head values (f .1) yy gg
 lawful settling f = lawful-settling
+lawful beginning f = lawful-beginning
+lawful stepping f = lawful-stepping
 lawful (giveCell e k) f = lawful-cell e k
 lawful giveDay f = lawful-day
 

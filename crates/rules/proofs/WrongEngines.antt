@@ -18,14 +18,15 @@ use Rattle.store_layout.specs.Model.{Store, stationAt}
 use Rattle.store_layout.specs.Layout.{encode, decode, encodeEntry, entryLength, blockLength}
 use Rattle.store_layout.specs.Form.{ours}
 use Rattle.store_layout.specs.Opening.{canOpen, openableIn, fresh}
-use Rattle.store_layout.specs.Updates.{withBlock, withStation}
+use Rattle.store_layout.specs.Updates.{withCopies, withBlock, withStation}
 use Rattle.store_layout.specs.Index.{indexIn}
 use Rattle.store_layout.specs.Valid.{ValidStore}
 use Rattle.store_layout.proofs.Opened.{can-open, fresh-count, valid-fresh}
 use Rattle.store_layout.proofs.Validity.{valid-marked}
 use Rattle.store_layout.proofs.Stores.{decode-encode}
-use Rattle.rules.specs.Calls.{Call, file, settle, cell, day, Answer, refused, accepted, onRefused}
-use Rattle.rules.specs.Rules.{Date, copyStep, rangeStep, internalStep, timeStep, fillStep, settledStation, dayOf, rule}
+use Rattle.rules.specs.Calls as calls
+use Rattle.rules.specs.Calls.{Call, file, settle, begin, cell, day, Answer, refused, accepted, onRefused}
+use Rattle.rules.specs.Rules.{Date, copyStep, stepDone, settledStation, dayOf, rule}
 use Rattle.rules.specs.Reaction.{dateOf}
 use Rattle.rules.specs.Step.{Outcome, unchanged, step}
 use Rattle.rules.specs.Runs.{Engine, Logged, log, left, names, naming, namingLog, records}
@@ -152,6 +153,8 @@ upTo (suc n) m = withStation n (settledStation (dateOf m) (stationAt (upTo n m .
 settlingAll : Engine
 settlingAll (settle x) s = record { answer = accepted; store = encode (upTo (length (decode s .stations)) (decode s)) }
 settlingAll (file text rank) s = step (file text rank) s
+settlingAll (begin x) s = step (begin x) s
+settlingAll (calls.step x) s = step (calls.step x) s
 settlingAll (cell x e k) s = step (cell x e k) s
 settlingAll (day x) s = step (day x) s
 
@@ -160,7 +163,7 @@ valid-settled : (i : ℕ) (d : Date) (m : Store) → ValidStore m → i < length
 valid-settled i d m v l = valid-kept i _ m v (kept-settled d (stationAt (m .stations) i) (v .each i l))
 
 settlingAll-marks : Marks settlingAll
-unfolding settlingAll upTo fresh table withStation settledStation copyStep rangeStep internalStep timeStep fillStep withBlock
+unfolding settlingAll upTo fresh table withStation settledStation copyStep stepDone withCopies withBlock
 settlingAll-marks =
     record {
       call = settle 50000;
@@ -198,7 +201,7 @@ spoiling-marks =
       leaves = spoilt both;
       valid =
           valid-kept 0 _ both valid-both
-          (kept-block _ 1 (stationAt (both .stations) 0) (valid-both .each 0 (omega arith)) (valid-marked 1 _ (valid-both .each 0 (omega arith) .block)) (lit≤ tt));
+          (kept-block _ 1 (stationAt (both .stations) 0) (valid-both .each 0 (omega arith)) (valid-marked 1 _ refl (valid-both .each 0 (omega arith) .block)) (lit≤ tt));
       bytes = rw (unknown, decode-two);
       number = refl;
       mark = refl;

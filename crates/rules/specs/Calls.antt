@@ -11,15 +11,18 @@ use Rattle.synop.specs.Report.{Report, report}
 use Rattle.synop_contents.specs.declared.Indicators.{Indicators}
 
 -- "Two calls are the same if their kind and their arguments other than the store are, a text byte for byte."
--- S-3: "Filing takes a rank"; "with the rank as part of each filing call"
+-- S-3: "Filing takes a rank"; "with the rank as part of each filing call". S-6: "The lists of demand 3 may then hold begin and step calls as
+-- well"
 pub data Call : Type 0 where
   file : List ℕ → ℕ → Call
   settle : ℕ → Call
+  begin : ℕ → Call
+  step : ℕ → Call
   cell : ℕ → ℕ → ℕ → Call
   day : ℕ → Call
 
 -- "An answer is all that a call returns: a refusal's number, the whole cell or day line, or, from an accepted file or settle, that it was
--- accepted."
+-- accepted." S-6: begin and step calls, "where accepted, answer as an accepted settle does"
 pub data Answer : Type 0 where
   refused : ℕ → Answer
   accepted : Answer
@@ -57,11 +60,13 @@ abbrev pub isAccepted : Answer → Bool
 isAccepted a = ifAccepted true false a
 
 -- what is asked of a station: to take a NIL of that day, hour and rank, to take a report of that day, hour and rank with its head and nine
--- values, to settle, to give the checked cell of an element and slot, to give its day line
+-- values, to settle, to begin a settling, to do the step that is due, to give the checked cell of an element and slot, to give its day line
 pub data Request : Type 0 where
   takeNil : ℕ → ℕ → ℕ → Request
   take : ℕ → ℕ → ℕ → Indicators → List Value → Request
   settling : Request
+  beginning : Request
+  stepping : Request
   giveCell : ℕ → ℕ → Request
   giveDay : Request
 
@@ -88,9 +93,11 @@ deny n (denied x m) = denied x n
 abbrev pub ranked : ℕ → Ask → Ask
 ranked rank a = cond (isRank rank) a (deny 13 a)
 
--- "Settle, cell and day name theirs."
+-- "Settle, cell and day name theirs."; S-6: begin and step calls "name their station"
 abbrev pub ask : Call → Ask
 ask (file text rank) = ranked rank (askFile rank (report text))
 ask (settle s) = named s settling
+ask (begin s) = named s beginning
+ask (step s) = named s stepping
 ask (cell s e k) = named s (giveCell e k)
 ask (day s) = named s giveDay

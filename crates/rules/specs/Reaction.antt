@@ -1,6 +1,6 @@
 -- What a call does to a store, on the model: no byte plays a part.
--- "File tests 9, then 1 to 8 in order, ..; settle 9, 6; cell 9, 6, 12, 11; day 9, 6, 11", S-3: 13 "right after 9" and "just before 8": all
--- but 9.
+-- "File tests 9, then 1 to 8 in order, ..; settle 9, 6; cell 9, 6, 12, 11; day 9, 6, 11", S-3: 13 "right after 9" and "just before 8"; S-6: 14
+-- "tested after 9 and 6": all but 9.
 -- Assumes nothing.
 use Prim.Native.Nat.{ℕ}
 use Rattle.store_layout.specs.Model.{Store, stationAt}

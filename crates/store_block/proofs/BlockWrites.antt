@@ -1,7 +1,7 @@
 -- Writing a block: one head or one cell. Every other head and cell stays.
 --     head-written, cell-written      what is read of a block after some bytes were stored
 --     cell-bytes                      a cell's bytes, read again
---     cell-put, head-put              what is read after a cell's or a head's bytes were stored
+--     cell-put, head-put, copy-put    what is read after a cell's or a head's bytes, or a head's copy of dd, were stored
 -- Assumes nothing.
 use mathlib.Core.Path.{_≡_, refl, sym, _∙_, ap}
 use mathlib.Core.List.{List, [], _∷_}
@@ -9,7 +9,7 @@ use mathlib.Core.Logic.{_⊎_, inl, inr, ⊎-elim}
 use Prim.Native.Nat.{ℕ, _+_, _*_, _/_, _%_, _<_, _≤_}
 use native.Mathlib.Omega.{arith}
 use lib.ListN.{length, take, drop, set}
-use lib.Seq.{sets}
+use lib.Seq.{sets, getD-set-same, getD-set-other}
 use Rattle.laws.specs.Table.{table}
 use Rattle.laws.specs.Offset.{value}
 use Rattle.laws.proofs.Offset.{side}
@@ -18,7 +18,8 @@ use Rattle.quality.specs.Cell.{Cell}
 use Rattle.quality.specs.Coded.{cellOf}
 use Rattle.quality.specs.Elements.{column}
 use Rattle.quality.specs.declared.head.SlotHead.{SlotHead}
-use Rattle.store_layout.specs.Layout.{headLength, signed, unsigned, word, wordBytes, cellLength, sheetLength, blockLength, rawFrom, checkedFrom, cellIndex, headAt, decodeHead, encodeHead, decodeCell, encodeCell, decodeBlock}
+use Rattle.store_layout.specs.Layout.{byte, headLength, irIn, trIn, ddIn, rankIn, copyIn, signed, unsigned, word, wordBytes, cellLength, sheetLength, blockLength, rawFrom, checkedFrom, cellIndex, headAt, decodeHead, encodeHead, decodeCell, encodeCell, decodeBlock}
+use Rattle.store_layout.specs.Updates.{withCopy}
 use Rattle.store_layout.proofs.Numbers.{word-bytes, value-signed, unsigned-value}
 use Rattle.store_layout.proofs.Parts.{Same, same-is}
 use Rattle.store_layout.proofs.Read.{head-same, cell-same}
@@ -78,26 +79,26 @@ module _ (s vs : List ℕ) (from e k : ℕ) (wide : length vs ≡ cellLength) (f
       ∙ ap (λ (xs : List Cell). set xs k (decodeCell vs 0)) (sym (getD-table 9 (λ x. table 9 (λ j. decodeCell s (at x j))) e [] l)))
 
 -- ---- in a block
+-- what is stored within head k changes that head alone
+head-changed : (s vs : List ℕ) (at w : ℕ) → length vs ≡ w → (k : ℕ) → k < 9 → headAt k ≤ at → at + w ≤ headAt k + headLength
+    → decodeBlock (sets s at vs) ≡ withHead k (decodeHead (sets s at vs) (headAt k)) (decodeBlock s)
+unfolding decodeBlock
+head-changed s vs at w wide k m least most =
+    λ d.
+    record {
+      heads =
+          table-set 9 (λ j. decodeHead s (headAt j)) (λ j. decodeHead (sets s at vs) (headAt j)) k m
+          (λ j b n. head-same (apart s vs at w wide headLength (headAt j) (⊎-elim (λ c. inl (omega arith)) (λ c. inr (omega (arith, n))) (side j k))))
+          d;
+      raw = sheet-apart s vs at w wide rawFrom (inr (omega arith)) d;
+      checked = sheet-apart s vs at w wide checkedFrom (inr (omega arith)) d;
+    }
+
 module _ (s vs : List ℕ) (long : length s ≡ blockLength) where
   pub head-written : length vs ≡ headLength → (k : ℕ) → k < 9 → decodeBlock (sets s (headAt k) vs) ≡ withHead k (decodeHead vs 0) (decodeBlock s)
-  unfolding decodeBlock
   head-written wide k m =
-      λ d.
-      record {
-        heads = heads d;
-        raw = sheet-apart s vs (headAt k) headLength wide rawFrom (inr (omega arith)) d;
-        checked = sheet-apart s vs (headAt k) headLength wide checkedFrom (inr (omega arith)) d;
-      }
-    where
-      kept : (j : ℕ) → (j ≡ k → ⊥) → decodeHead (sets s (headAt k) vs) (headAt j) ≡ decodeHead s (headAt j)
-      kept j n =
-          head-same
-          (apart s vs (headAt k) headLength wide headLength (headAt j) (⊎-elim (λ c. inl (omega arith)) (λ c. inr (omega (arith, n))) (side j k)))
-
-      heads : table 9 (λ j. decodeHead (sets s (headAt k) vs) (headAt j)) ≡ set (table 9 (λ j. decodeHead s (headAt j))) k (decodeHead vs 0)
-      heads =
-          table-set 9 (λ j. decodeHead s (headAt j)) (λ j. decodeHead (sets s (headAt k) vs) (headAt j)) k m (λ j b n. kept j n)
-          ∙ ap (set (table 9 (λ j. decodeHead s (headAt j))) k) (head-same (same-is (there s vs (headAt k) headLength wide (omega arith))))
+      head-changed s vs (headAt k) headLength wide k m (omega arith) (omega arith)
+      ∙ ap (λ (h : SlotHead). withHead k h (decodeBlock s)) (head-same (same-is (there s vs (headAt k) headLength wide (omega arith))))
 
   pub cell-written : length vs ≡ cellLength → (a : Area) (e k : ℕ) → e < 9 → k < 9
       → decodeBlock (sets s (cellAt a e k) vs) ≡ withCell a e k (decodeCell vs 0) (decodeBlock s)
@@ -149,3 +150,26 @@ pub head-put : (s s′ : List ℕ) → length s ≡ blockLength → (k : ℕ) �
     → decodeBlock s′ ≡ withHead k h (decodeBlock s)
 unfolding decodeHead encodeHead
 head-put s s′ long k m h w = ap decodeBlock w ∙ head-written s (encodeHead h) long refl k m
+
+-- a copy of dd stored in head k
+pub copy-put : (s : List ℕ) → length s ≡ blockLength → (k : ℕ) → k < 9 → (f : SlotHead → ℕ) (v : ℕ) → v ≡ f (decodeHead s (headAt k))
+    → decodeBlock (set s (headAt k + copyIn) v) ≡ withHead k (withCopy f (decodeHead s (headAt k))) (decodeBlock s)
+unfolding decodeHead
+copy-put s long k m f v e =
+    head-changed s (v ∷ []) (headAt k + copyIn) 1 refl k m (omega arith) (omega arith)
+    ∙ ap (λ (h : SlotHead). withHead k h (decodeBlock s)) copied
+  where
+    kept : (p : ℕ) → p < headAt k + copyIn → byte (set s (headAt k + copyIn) v) p ≡ byte s p
+    kept p l = getD-set-other s (headAt k + copyIn) p v 0 (λ q. omega arith)
+
+    copied : decodeHead (set s (headAt k + copyIn) v) (headAt k) ≡ withCopy f (decodeHead s (headAt k))
+    copied =
+        λ d.
+        record {
+          filed = kept (headAt k) (omega arith) d;
+          ir = kept (headAt k + irIn) (omega arith) d;
+          tr = kept (headAt k + trIn) (omega arith) d;
+          dd = kept (headAt k + ddIn) (omega arith) d;
+          rank = kept (headAt k + rankIn) (omega arith) d;
+          copy = (getD-set-same s (headAt k + copyIn) v 0 (omega arith) ∙ e) d;
+        }

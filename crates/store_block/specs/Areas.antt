@@ -37,6 +37,9 @@ withColumn a e xs b = withSheet a (set (sheetIn a b) e xs) b
 abbrev pub withCell : Area → ℕ → ℕ → Cell → Block → Block
 withCell a e k c b = withColumn a e (set (column (sheetIn a b) e) k c) b
 
--- with another head of slot k
+-- with other heads, and with another head of slot k
+abbrev pub withHeads : List SlotHead → Block → Block
+withHeads hs b = record { heads = hs; raw = b .raw; checked = b .checked }
+
 abbrev pub withHead : ℕ → SlotHead → Block → Block
-withHead k h b = record { heads = set (b .heads) k h; raw = b .raw; checked = b .checked }
+withHead k h b = withHeads (set (b .heads) k h) b

@@ -8,14 +8,16 @@ ghost use Rattle.quality.specs.Coded.{cell, cells, sheet};
 ghost use Rattle.quality.specs.Elements.{column};
 ghost use Rattle.store_layout.specs.Model.{headOf};
 ghost use Rattle.store_layout.specs.Layout.{blockLength, cellLength, checkedFrom, decodeCell, decodeBlock};
-ghost use Rattle.store_layout.specs.Updates.{withSlot, withChecked};
+ghost use Rattle.store_layout.specs.Updates.{withSlot, withChecked, withCopies};
 ghost use Rattle.store_block.specs.Areas.{sheetIn, areaFrom, cellAt, withCell, withColumn};
-ghost use Rattle.store_block.specs.Coded.{directionsOf};
+ghost use Rattle.store_block.specs.Coded.{directionsOf, copyFor};
 use quality::column::Column;
 use quality::column::OffsetCell;
 use quality::head::SlotHead;
 use store_numbers::at::CELL_LENGTH;
 use store_numbers::at::CHECKED_FROM;
+use store_numbers::at::COPY_IN;
+use store_numbers::at::DD_IN;
 use store_numbers::at::HEAD_LENGTH;
 use store_numbers::at::RAW_FROM;
 use store_numbers::head::head_at;
@@ -27,6 +29,18 @@ use store_numbers::write::put_four;
 pub enum Area {
     Raw,
     Checked,
+}
+
+// A slot's own dd, or the copy that a settling under way reads.
+pub enum Dd {
+    Own,
+    Copy,
+}
+
+// The copies of dd: taken as a settling begins, cleared as it ends.
+pub enum Copies {
+    Taken,
+    Cleared,
 }
 
 // Where a sheet begins in its block.
@@ -113,14 +127,18 @@ pub fn heads_of(block: &[u8]) -> [SlotHead; 9]
     r
 }
 
-// dd of each slot.
-pub fn directions(block: &[u8]) -> [u8; 9]
+// dd of each slot, its own or the copy.
+pub fn directions(block: &[u8], of: Dd) -> [u8; 9]
     requires { ⌜ length (now block) ≡ blockLength ⌝ }
-    ensures { λ r. ⌜ r ≡ directionsOf (decodeBlock (now (block .entry))) ⌝ }
+    ensures { λ r. ⌜ r ≡ directionsOf of (decodeBlock (now (block .entry))) ⌝ }
 {
+    let at = match of {
+        Dd::Own => DD_IN,
+        Dd::Copy => COPY_IN,
+    };
     let mut r = [0; 9];
     for k in 0..9 {
-        r[k] = head_at(block, HEAD_LENGTH * k).dd;
+        r[k] = block[HEAD_LENGTH * k + at];
     }
     r
 }
@@ -176,5 +194,19 @@ pub fn put_sheet(block: &mut [u8], columns: [Column; 9])
 {
     for e in 0..9 {
         put_checked(block, e, columns[e]);
+    }
+}
+
+// The nine copies of dd, taken or cleared.
+pub fn put_copies(block: &mut [u8], copies: Copies)
+    requires { ⌜ length (now block) ≡ blockLength ⌝ }
+    ensures { λ _. ⌜ decodeBlock (now (block .exit)) ≡ withCopies (copyFor copies) (decodeBlock (now (block .entry))) ⌝ }
+{
+    for k in 0..9 {
+        let copy = match copies {
+            Copies::Taken => block[HEAD_LENGTH * k + DD_IN],
+            Copies::Cleared => 0,
+        };
+        block[HEAD_LENGTH * k + COPY_IN] = copy;
     }
 }

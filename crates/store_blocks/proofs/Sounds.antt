@@ -21,7 +21,7 @@ module _ (s : List ℕ) (at : ℕ) where
   side-by-side states flags from = all-ext _ _ 81 (λ j l. ap (soundCell states flags (cellElement j) s) (in-row at from j))
 
   pub block-in-turn : (settled : ℕ) → soundBlock settled s at
-      ≡ (all (λ k. soundHead s (at + headAt k)) 9
+      ≡ (all (λ k. soundHead settled s (at + headAt k)) 9
       && all (λ j. soundCell 1 0 (cellElement j) s (at + rawFrom + cellLength * j)) 81
       && all (λ j. soundCell 3 4 (cellElement j) s (at + checkedFrom + cellLength * j)) 81)
   unfolding soundBlock

@@ -15,20 +15,20 @@ use store_numbers::at::SLOT_LENGTH;
 use store_numbers::head::head_at;
 use store_numbers::read::word_at;
 
-fn is_head_at(store: &[u8], at: usize) -> bool
+fn is_head_at(store: &[u8], at: usize, settled: u16) -> bool
     requires { ⌜ at + headLength ≤ length (now store) ⌝ }
-    ensures { λ r. ⌜ r ≡ soundHead (now (store .entry)) at ⌝ }
+    ensures { λ r. ⌜ r ≡ soundHead settled (now (store .entry)) at ⌝ }
 {
-    is_head(head_at(store, at))
+    is_head(settled, head_at(store, at))
 }
 
-// The nine slot heads from a position on.
-fn are_heads(store: &[u8], at: usize) -> bool
+// The nine slot heads from a position on, of a station with that settled number.
+fn are_heads(store: &[u8], at: usize, settled: u16) -> bool
     requires { ⌜ at + rawFrom ≤ length (now store) ⌝ }
-    ensures { λ r. ⌜ r ≡ all (λ k. soundHead (now (store .entry)) (at + headAt k)) 9 ⌝ }
+    ensures { λ r. ⌜ r ≡ all (λ k. soundHead settled (now (store .entry)) (at + headAt k)) 9 ⌝ }
 {
     for k in 0..9 {
-        if !is_head_at(store, at + HEAD_LENGTH * k) {
+        if !is_head_at(store, at + HEAD_LENGTH * k, settled) {
             return false;
         }
     }
@@ -82,7 +82,7 @@ pub fn is_block(store: &[u8], at: usize, settled: u16) -> bool
     requires { ⌜ at + blockLength ≤ length (now store) ⌝ }
     ensures { λ r. ⌜ r ≡ soundBlock settled (now (store .entry)) at ⌝ }
 {
-    are_heads(store, at)
+    are_heads(store, at, settled)
         & are_cells(store, at + RAW_FROM, 1, 0)
         & are_cells(store, at + CHECKED_FROM, 3, 4)
 }

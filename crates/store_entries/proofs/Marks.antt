@@ -1,4 +1,4 @@
--- The settled mark's two bytes stored.
+-- The settled number's two bytes stored.
 -- Assumes nothing.
 use mathlib.Core.Path.{_≡_, _∙_, ap}
 use mathlib.Core.List.{List}

@@ -1,2 +1,2 @@
--- The settled mark written.
+-- The settled number written.
 pub mod Marked

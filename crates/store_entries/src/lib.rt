@@ -1,7 +1,6 @@
-// The store's header and station entries: the date, a station's climate row and settled mark, and where its block lies.
+// The store's header and station entries: the date, a station's climate row and settled number, and where its block lies.
 ghost use mathlib.Core.Path.{_≡_};
 ghost use Prim.Native.Nat.{_+_, _<_, _≤_};
-ghost use lib.Dec.{eqb};
 ghost use lib.ListN.{length};
 ghost use Rattle.store_layout.specs.Model.{stationAt};
 ghost use Rattle.store_layout.specs.Layout.{word, countAt, headerLength, blockLength, blockAt, decode};
@@ -45,15 +44,15 @@ pub fn row_of(store: &[u8], index: usize) -> u16
     word_at(store, entry_at(index) + ROW_IN)
 }
 
-// Whether the station at an index is settled.
-pub fn is_settled(store: &[u8], index: usize) -> bool
+// The settled number of the station at an index.
+pub fn settled_of(store: &[u8], index: usize) -> u16
     requires { ⌜ Framed (now store) × (index < word (now store) countAt) ⌝ }
-    ensures { λ r. ⌜ r ≡ eqb (stationAt (decode (now (store .entry)) .stations) index .settled) 1 ⌝ }
+    ensures { λ r. ⌜ r ≡ stationAt (decode (now (store .entry)) .stations) index .settled ⌝ }
 {
-    word_at(store, entry_at(index) + SETTLED_IN) == 1
+    word_at(store, entry_at(index) + SETTLED_IN)
 }
 
-// Another settled mark of the station at an index.
+// Another settled number of the station at an index.
 pub fn set_settled(store: &mut [u8], index: usize, settled: u16)
     requires { ⌜ Framed (now store) × (index < word (now store) countAt) ⌝ }
     ensures { λ _. ⌜ Marked (now (store .entry)) index settled (now (store .exit)) ⌝ }

@@ -11,21 +11,23 @@ use quality::head::SlotHead;
 // D's number among the elements.
 const DEW_POINT: usize = 1;
 
-pub fn is_head(h: SlotHead) -> bool
-    ensures { λ r. ⌜ r ≡ isHead h ⌝ }
+// A slot head of a station with that settled number. From 2 on a settling is under way and the copy is a dd, below it is 0.
+pub fn is_head(settled: u16, h: SlotHead) -> bool
+    ensures { λ r. ⌜ r ≡ isHead settled h ⌝ }
 {
-    if 1 < h.filed {
-        return false;
-    }
-    if 5 < h.ir {
-        return false;
-    }
-    if 9 < h.tr {
-        return false;
-    }
     let direction = (h.dd <= 36) | (h.dd == 99) | (h.dd == 100);
     let free = (h.filed == 1) | (h.rank == 0);
-    direction & (h.rank as u32 <= HIGHEST_RANK) & free & (h.spare == 0)
+    let first = (h.filed <= 1)
+        & (h.ir <= 5)
+        & (h.tr <= 9)
+        & direction
+        & (h.rank as u32 <= HIGHEST_RANK)
+        & free;
+    let copied = (h.copy <= 36) | (h.copy == 99) | (h.copy == 100);
+    if settled < 2 {
+        return first & (h.copy == 0);
+    }
+    first & copied
 }
 
 // A cell of an element, its value in two's complement, with the largest state but a humidity's, and the largest flag, that may stand
@@ -51,5 +53,5 @@ pub fn is_cell(element: usize, state: u8, flag: u8, value: u16, states: u8, flag
 pub fn is_entry(last: u32, number: u32, row: u16, settled: u16) -> bool
     ensures { λ r. ⌜ r ≡ (ltb last number && isEntry number row settled) ⌝ }
 {
-    (last < number) & ((1 <= number) & (number <= 99999) & (row <= 1) & (settled <= 1))
+    (last < number) & ((1 <= number) & (number <= 99999) & (row <= 1) & (settled <= 9))
 }

@@ -2,10 +2,12 @@
 --     with-same, with-other      the stations of the store
 --     with-count                 their number
 --     with-with                  the last one put there counts
+--     with-itself                one that stands there already
 -- Assumes nothing.
-use mathlib.Core.Path.{_≡_}
-use Prim.Native.Nat.{ℕ, _<_}
-use lib.ListN.{length, length-set}
+use mathlib.Core.Path.{_≡_, refl, ap}
+use mathlib.Core.List.{List, [], _∷_}
+use Prim.Native.Nat.{ℕ, zero, suc, _<_}
+use lib.ListN.{length, getD, set, length-set}
 use lib.Seq.{getD-set-same, getD-set-other, set-set}
 use Rattle.store_layout.specs.Model.{Station, Store, emptyStation, stationAt}
 use Rattle.store_layout.specs.Updates.{withStation}
@@ -26,3 +28,12 @@ module _ (i : ℕ) (t : Station) (m : Store) where
   pub with-with : (u : Station) → withStation i u (withStation i t m) ≡ withStation i u m
   unfolding withStation
   with-with u = λ d. record { year = m .year; month = m .month; day = m .day; stations = set-set (m .stations) i t u d }
+
+pub with-itself : (i : ℕ) (m : Store) → withStation i (stationAt (m .stations) i) m ≡ m
+unfolding withStation
+with-itself i m = λ d. record { year = m .year; month = m .month; day = m .day; stations = set-itself (m .stations) i d }
+  where
+    set-itself : (ts : List Station) (k : ℕ) → set ts k (getD ts k emptyStation) ≡ ts
+    set-itself [] k = refl
+    set-itself (t ∷ ts) zero = refl
+    set-itself (t ∷ ts) (suc k) = ap (λ (us : List Station). t ∷ us) (set-itself ts k)

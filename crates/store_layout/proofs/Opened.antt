@@ -113,7 +113,7 @@ module _ (year month day : ℕ) (numbers rows : List ℕ) where
           rw (fresh-station i l)
           (record {
             entry = entry-whole (record { least = o .least i l; most = o .most i l; row-most = o .row i l; settled-most = lit≤ tt });
-            block = valid-empty 0;
+            block = valid-empty;
           })
 
       ascending : Openable (storeLength (length numbers)) → (i : ℕ) → suc i < length numbers

@@ -13,7 +13,7 @@ use lib.ListN.{length, take, drop}
 use Rattle.laws.specs.Table.{table}
 use Rattle.quality.specs.Cell.{Cell}
 use Rattle.quality.specs.declared.head.SlotHead.{SlotHead}
-use Rattle.store_layout.specs.Layout.{byte, word, long, wordBytes, longBytes, signed, unsigned, headLength, irIn, trIn, ddIn, rankIn, spareIn, cellLength, flagIn, decodeHead, encodeHead, decodeCell, encodeCell}
+use Rattle.store_layout.specs.Layout.{byte, word, long, wordBytes, longBytes, signed, unsigned, headLength, irIn, trIn, ddIn, rankIn, copyIn, cellLength, flagIn, decodeHead, encodeHead, decodeCell, encodeCell}
 use Rattle.store_layout.specs.Framed.{Bytes}
 use Rattle.store_layout.proofs.Numbers.{bytes-word, bytes-long, word-below, signed-unsigned, unsigned-signed, word-bytes}
 use Rattle.store_layout.proofs.Parts.{Same, part-table}
@@ -50,7 +50,7 @@ module _ {s t : List ℕ} {i j : ℕ} where
         tr = h .each trIn (omega arith) d;
         dd = h .each ddIn (omega arith) d;
         rank = h .each rankIn (omega arith) d;
-        spare = h .each spareIn (omega arith) d;
+        copy = h .each copyIn (omega arith) d;
       }
 
   pub cell-same : Same cellLength s i t j → decodeCell s i ≡ decodeCell t j

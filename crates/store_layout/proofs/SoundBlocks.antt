@@ -55,15 +55,15 @@ module _ (s : List ℕ) (a d states flags : ℕ) (fits : d + sheetLength ≤ blo
 -- ---- a block, the one that begins at a
 module _ (s : List ℕ) (a settled : ℕ) where
   headsTest : Bool
-  headsTest = all (λ k. soundHead s (a + headAt k)) 9
+  headsTest = all (λ k. soundHead settled s (a + headAt k)) 9
 
-  heads-valid : headsTest ≡ true → (k : ℕ) → k < 9 → ValidHead (headOf (decodeBlock (take blockLength (drop a s))) k)
+  heads-valid : headsTest ≡ true → (k : ℕ) → k < 9 → ValidHead settled (headOf (decodeBlock (take blockLength (drop a s))) k)
   unfolding headsTest
-  heads-valid p k l = rw (head-from s a k l) (all-at (λ j. soundHead s (a + headAt j)) 9 p k l)
+  heads-valid p k l = rw (head-from s a k l) (all-at (λ j. soundHead settled s (a + headAt j)) 9 p k l)
 
-  valid-heads : ((k : ℕ) → k < 9 → ValidHead (headOf (decodeBlock (take blockLength (drop a s))) k)) → headsTest ≡ true
+  valid-heads : ((k : ℕ) → k < 9 → ValidHead settled (headOf (decodeBlock (take blockLength (drop a s))) k)) → headsTest ≡ true
   unfolding headsTest
-  valid-heads v = all-from (λ k. soundHead s (a + headAt k)) 9 (λ k l. rw (head-from s a k l) at (v k l))
+  valid-heads v = all-from (λ k. soundHead settled s (a + headAt k)) 9 (λ k l. rw (head-from s a k l) at (v k l))
 
   rawTest : Bool
   rawTest = sheetTest s a rawFrom 1 0 (lit≤ tt)

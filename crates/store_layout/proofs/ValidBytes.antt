@@ -19,7 +19,7 @@ use Rattle.quality.specs.Valid.{ValidCell, ValidSheet}
 use Rattle.quality.proofs.Validity.{cell-parts, state-most, raw-sheet-valid}
 use Rattle.store_layout.specs.Model.{Block, Station, Store, headOf, stationAt}
 use Rattle.quality.specs.declared.head.SlotHead.{SlotHead}
-use Rattle.store_layout.specs.Valid.{isDirection, ValidHead, ValidBlock, ValidStation, ValidStore}
+use Rattle.store_layout.specs.Valid.{isDirection, isUnderWay, isCopy, ValidHead, ValidBlock, ValidStation, ValidStore}
 use Rattle.store_layout.specs.Layout.{unsigned, headerLength, blockLength, blockAt, cellElement, cellSlot, encodeHead, encodeCell, encodeSheet, encodeBlock, encodeEntry, encodeHeader, encode}
 use Rattle.store_layout.specs.Framed.{Bytes}
 use Rattle.store_layout.specs.Sound.{sound}
@@ -39,15 +39,23 @@ direction-most dd e = go (known (leb dd 36)) (known (eqb dd 99)) (known (eqb dd 
     go (is-false f) (is-false g) (is-true t) = omega (arith, eqb-true dd 100 t)
     go (is-false f) (is-false g) (is-false h) = absurd (false≢true (rw (f, g, h) at e))
 
-pub bytes-of-head : (h : SlotHead) → ValidHead h → Bytes (encodeHead h)
+-- and so is a copy of one
+copy-most : (settled copy : ℕ) → isCopy settled copy ≡ true → copy ≤ 100
+copy-most settled copy e = go (known (isUnderWay settled))
+  where
+    go : Known (isUnderWay settled) → copy ≤ 100
+    go (is-true t) = direction-most copy (rw t at e)
+    go (is-false f) = omega (arith, eqb-true copy 0 (rw f at e))
+
+pub bytes-of-head : (settled : ℕ) (h : SlotHead) → ValidHead settled h → Bytes (encodeHead h)
 unfolding encodeHead
-bytes-of-head h v =
-    let p = head-parts h v in
+bytes-of-head settled h v =
+    let p = head-parts {settled = settled} h v in
     bytes-more (omega (arith, p .filed))
     (bytes-more (omega (arith, p .ir))
     (bytes-more (omega (arith, p .tr))
     (bytes-more (omega (arith, direction-most (h .dd) (p .dd)))
-    (bytes-more (omega (arith, p .rank)) (bytes-more (omega (arith, p .spare)) bytes-none)))))
+    (bytes-more (omega (arith, p .rank)) (bytes-more (omega (arith, copy-most settled (h .copy) (p .copy))) bytes-none)))))
 
 pub bytes-of-cell : {e : ℕ} (c : Cell) → ValidCell e c → Bytes (encodeCell c)
 unfolding encodeCell
@@ -64,8 +72,8 @@ bytes-of-sheet s v =
 
 pub bytes-of-block : {settled : ℕ} (b : Block) → ValidBlock settled b → Bytes (encodeBlock b)
 unfolding encodeBlock
-bytes-of-block b v =
-    bytes-append (bytes-pieces 9 (λ k. encodeHead (headOf b k)) (λ k l. bytes-of-head _ (v .heads k l)))
+bytes-of-block {settled} b v =
+    bytes-append (bytes-pieces 9 (λ k. encodeHead (headOf b k)) (λ k l. bytes-of-head settled _ (v .heads k l)))
     (bytes-append (bytes-of-sheet (b .raw) (raw-sheet-valid (b .raw) (v .raw))) (bytes-of-sheet (b .checked) (v .checked)))
 
 pub bytes-of-entry : (t : Station) → ValidStation t → Bytes (encodeEntry t)

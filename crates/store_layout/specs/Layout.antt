@@ -47,7 +47,7 @@ abbrev pub entryLength : ℕ
 entryLength = 8
 
 -- in a block: "nine slot heads of 4 bytes .., then 81 raw and 81 checked cells"; S-3: "The slot head grows by a rank byte .. and a zero byte".
--- A head begins with filed; where in it iR, tR, dd, the rank and the zero byte stand
+-- A head begins with filed; where in it iR, tR, dd, the rank and the last byte stand, S-6's copy of dd
 abbrev pub headLength : ℕ
 headLength = 6
 
@@ -63,8 +63,8 @@ ddIn = 3
 abbrev pub rankIn : ℕ
 rankIn = 4
 
-abbrev pub spareIn : ℕ
-spareIn = 5
+abbrev pub copyIn : ℕ
+copyIn = 5
 
 -- a cell begins with its state; where in it the flag and the value stand
 abbrev pub cellLength : ℕ
@@ -163,11 +163,11 @@ decodeHead s at =
       tr = byte s (at + trIn);
       dd = byte s (at + ddIn);
       rank = byte s (at + rankIn);
-      spare = byte s (at + spareIn);
+      copy = byte s (at + copyIn);
     }
 
 unfoldable pub encodeHead : SlotHead → List ℕ
-encodeHead h = h .filed ∷ h .ir ∷ h .tr ∷ h .dd ∷ h .rank ∷ h .spare ∷ []
+encodeHead h = h .filed ∷ h .ir ∷ h .tr ∷ h .dd ∷ h .rank ∷ h .copy ∷ []
 
 -- "A cell: state and flag (a byte each), value (16 bits, signed ..)."
 unfoldable pub decodeCell : List ℕ → ℕ → Cell

@@ -11,9 +11,9 @@ use Rattle.quality.specs.Valid.{isCell}
 use Rattle.store_layout.specs.Layout.{word, long, countAt, listOffsetAt, blockOffsetAt, blockLengthAt, yearAt, monthAt, dayAt, zeroAt, headerLength, blockLength, entryAt, rowIn, settledIn, blockAt, storeLength, headAt, cellElement, cellSlot, rawAt, checkedAt, decodeHead, decodeCell}
 use Rattle.store_layout.specs.Valid.{isHead, isEntry}
 
--- the slot head at a position
-abbrev pub soundHead : List ℕ → ℕ → Bool
-soundHead s at = isHead (decodeHead s at)
+-- the slot head at a position, of a station with that settled number
+abbrev pub soundHead : ℕ → List ℕ → ℕ → Bool
+soundHead settled s at = isHead settled (decodeHead s at)
 
 -- the cell of element e at a position, with the largest state but a humidity's, and the largest flag, that may stand there
 abbrev pub soundCell : ℕ → ℕ → ℕ → List ℕ → ℕ → Bool
@@ -27,10 +27,10 @@ soundRaw = soundCell 1 0
 abbrev pub soundChecked : ℕ → List ℕ → ℕ → Bool
 soundChecked = soundCell 3 4
 
--- the block that begins at a position, of a station with that settled number, which changes nothing in it
+-- the block that begins at a position, of a station with that settled number
 unfoldable pub soundBlock : ℕ → List ℕ → ℕ → Bool
 soundBlock settled s at =
-    all (λ k. soundHead s (at + headAt k)) 9
+    all (λ k. soundHead settled s (at + headAt k)) 9
     && all (λ j. soundRaw (cellElement j) s (at + rawAt (cellElement j) (cellSlot j))) 81
     && all (λ j. soundChecked (cellElement j) s (at + checkedAt (cellElement j) (cellSlot j))) 81
 

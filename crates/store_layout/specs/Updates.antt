@@ -1,6 +1,6 @@
--- What the calls do to a station, on the model: a report filed in a slot, the checked cells put, the settled mark.
+-- What the calls do to a station, on the model: a report filed in a slot, the checked cells put, the copies of dd, the settled number.
 -- Assumes nothing.
-use mathlib.Core.List.{List}
+use mathlib.Core.List.{List, map}
 use Prim.Native.Nat.{ℕ}
 use lib.ListN.{getD, set}
 use Rattle.laws.specs.Table.{table}
@@ -22,7 +22,14 @@ withSlot k h cells b =
 unfoldable pub withChecked : List (List Cell) → Block → Block
 withChecked sheet b = record { heads = b .heads; raw = b .raw; checked = sheet }
 
--- the station with another block and settled mark
+-- S-6: each head's last byte, the copy of dd, as f gives it
+abbrev pub withCopy : (SlotHead → ℕ) → SlotHead → SlotHead
+withCopy f h = record { filed = h .filed; ir = h .ir; tr = h .tr; dd = h .dd; rank = h .rank; copy = f h }
+
+unfoldable pub withCopies : (SlotHead → ℕ) → Block → Block
+withCopies f b = record { heads = map (withCopy f) (b .heads); raw = b .raw; checked = b .checked }
+
+-- the station with another block and settled number
 unfoldable pub withBlock : Block → ℕ → Station → Station
 withBlock b settled t = record { number = t .number; row = t .row; settled = settled; block = b }
 

@@ -1,7 +1,7 @@
 -- Which models are stores: "A buffer that breaks any of this is unsound", said of the model.
 -- Assumes nothing.
 use mathlib.Core.Path.{_≡_}
-use mathlib.Core.Bool.{Bool, true, _&&_, _||_}
+use mathlib.Core.Bool.{Bool, true, cond, _&&_, _||_}
 use Prim.Native.Nat.{ℕ, suc, _≤_, _<_}
 use lib.Dec.{leb, eqb}
 use lib.ListN.{length}
@@ -21,28 +21,38 @@ highestRank = 24
 abbrev pub isRank : ℕ → Bool
 isRank rank = leb rank highestRank
 
+-- S-6: whether "a settling is under way", by the settled number: "2 to 5 while range, internal, time or fill is due, 6 to 9 if such a
+-- report came since"
+abbrev pub isUnderWay : ℕ → Bool
+isUnderWay settled = leb 2 settled
+
+-- S-6: the last byte of a head "holds a dd, 0 to 36, 99 or 100, while a settling is under way, else 0"
+abbrev pub isCopy : ℕ → ℕ → Bool
+isCopy settled copy = cond (isUnderWay settled) (isDirection copy) (eqb copy 0)
+
 -- "nine slot heads .. (filed 0 or 1; iR 0 to 4, else 5; tR 0 to 9; dd 0 to 36 or 99, else 100)"; S-3: "a rank byte (0 to 24, 0 while
--- unfiled) and a zero byte"
-unfoldable pub isHead : SlotHead → Bool
-isHead h =
+-- unfiled)". Of a station with that settled number
+unfoldable pub isHead : ℕ → SlotHead → Bool
+isHead settled h =
     leb (h .filed) 1 && leb (h .ir) 5 && leb (h .tr) 9 && isDirection (h .dd)
     && isRank (h .rank)
     && (eqb (h .filed) 1 || eqb (h .rank) 0)
-    && eqb (h .spare) 0
+    && isCopy settled (h .copy)
 
-abbrev pub ValidHead : SlotHead → Type 0
-ValidHead h = isHead h ≡ true
+abbrev pub ValidHead : ℕ → SlotHead → Type 0
+ValidHead settled h = isHead settled h ≡ true
 
--- the block of a station with that settled number, which changes nothing in it
+-- the block of a station with that settled number
 pub record ValidBlock (settled : ℕ) (b : Block) : Type 0 where
   pub nine : length (b .heads) ≡ 9
-  pub heads : (k : ℕ) → k < 9 → ValidHead (headOf b k)
+  pub heads : (k : ℕ) → k < 9 → ValidHead settled (headOf b k)
   pub raw : RawSheet (b .raw)
   pub checked : ValidSheet (b .checked)
 
--- "number IIiii (32 bits, 1 to 99999), climate row (16 bits, 0 lowland, 1 hill), settled (16 bits, 0 or 1)"
+-- "number IIiii (32 bits, 1 to 99999), climate row (16 bits, 0 lowland, 1 hill), settled (16 bits, 0 or 1)"; S-6: the settled number
+-- is 2 to 9 while a settling is under way
 unfoldable pub isEntry : ℕ → ℕ → ℕ → Bool
-isEntry number row settled = leb 1 number && leb number 99999 && leb row 1 && leb settled 1
+isEntry number row settled = leb 1 number && leb number 99999 && leb row 1 && leb settled 9
 
 pub record ValidStation (s : Station) : Type 0 where
   pub entry : isEntry (s .number) (s .row) (s .settled) ≡ true

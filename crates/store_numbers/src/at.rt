@@ -24,7 +24,7 @@ pub const DAY_AT: usize = 12;
 
 pub const ZERO_AT: usize = 14;
 
-// A station's entry, and in it its number, climate row and settled mark.
+// A station's entry, and in it its number, climate row and settled number.
 pub const ENTRY_LENGTH: usize = 8;
 
 pub const NUMBER_IN: usize = 0;
@@ -33,7 +33,7 @@ pub const ROW_IN: usize = 4;
 
 pub const SETTLED_IN: usize = 6;
 
-// A slot head, and in it filed, iR, tR, dd, the rank and the zero byte.
+// A slot head, and in it filed, iR, tR, dd, the rank and the copy of dd.
 pub const HEAD_LENGTH: usize = 6;
 
 pub const FILED_IN: usize = 0;
@@ -46,7 +46,7 @@ pub const DD_IN: usize = 3;
 
 pub const RANK_IN: usize = 4;
 
-pub const SPARE_IN: usize = 5;
+pub const COPY_IN: usize = 5;
 
 // A cell, and in it its state, flag and value.
 pub const CELL_LENGTH: usize = 4;

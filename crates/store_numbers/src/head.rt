@@ -5,10 +5,10 @@ ghost use lib.ListN.{length};
 ghost use lib.Seq.{sets};
 ghost use Rattle.store_layout.specs.Layout.{headLength, decodeHead, encodeHead};
 ghost use Rattle.store_layout.specs.Model as model;
+use crate::at::COPY_IN;
 use crate::at::DD_IN;
 use crate::at::IR_IN;
 use crate::at::RANK_IN;
-use crate::at::SPARE_IN;
 use crate::at::TR_IN;
 use crate::write::put_four;
 use quality::head::SlotHead;
@@ -24,7 +24,7 @@ pub fn head_at(store: &[u8], at: usize) -> SlotHead
         tr: store[at + TR_IN],
         dd: store[at + DD_IN],
         rank: store[at + RANK_IN],
-        spare: store[at + SPARE_IN],
+        copy: store[at + COPY_IN],
     }
 }
 
@@ -35,7 +35,7 @@ pub fn put_head(store: &mut [u8], at: usize, h: SlotHead)
 {
     put_four(store, at, h.filed, h.ir, h.tr, h.dd);
     store[at + RANK_IN] = h.rank;
-    store[at + SPARE_IN] = h.spare;
+    store[at + COPY_IN] = h.copy;
 }
 
 // The head of a slot that no report was filed in.
@@ -48,6 +48,6 @@ pub fn unfiled() -> SlotHead
         tr: 0,
         dd: 100,
         rank: 0,
-        spare: 0,
+        copy: 0,
     }
 }

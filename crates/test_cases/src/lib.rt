@@ -1,3 +1,4 @@
-// For the program `test_engine`: the printing of answers, and the buffer before and after a call.
+// For the programs that run lines (crate test_calls): the printing of lines and answers, and the buffer before and after a call.
+pub mod case;
 pub mod compared;
 pub mod print;

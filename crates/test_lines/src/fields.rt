@@ -4,7 +4,7 @@
 //
 //     header                      n list blocks length year month day zero
 //     entry STATION               number row settled
-//     head STATION SLOT           filed iR tR dd rank spare
+//     head STATION SLOT           filed iR tR dd rank copy
 //     raw STATION ELEMENT SLOT    state flag value
 //     checked STATION ELEMENT SLOT
 ghost use mathlib.Core.Path.{_≡_};
@@ -16,6 +16,7 @@ use store_numbers::at::BLOCK_LENGTH_AT;
 use store_numbers::at::BLOCK_OFFSET_AT;
 use store_numbers::at::CELL_LENGTH;
 use store_numbers::at::CHECKED_FROM;
+use store_numbers::at::COPY_IN;
 use store_numbers::at::COUNT_AT;
 use store_numbers::at::DAY_AT;
 use store_numbers::at::DD_IN;
@@ -30,7 +31,6 @@ use store_numbers::at::RANK_IN;
 use store_numbers::at::RAW_FROM;
 use store_numbers::at::ROW_IN;
 use store_numbers::at::SETTLED_IN;
-use store_numbers::at::SPARE_IN;
 use store_numbers::at::STATE_IN;
 use store_numbers::at::TR_IN;
 use store_numbers::at::VALUE_IN;
@@ -55,7 +55,7 @@ const FIELD_AT: [usize; 20] = [
     TR_IN,
     DD_IN,
     RANK_IN,
-    SPARE_IN,
+    COPY_IN,
     STATE_IN,
     FLAG_IN,
     VALUE_IN,
@@ -215,7 +215,7 @@ pub fn put(store: &mut [u8], n: usize, line: &[u8]) {
     let j = which(
         line,
         k,
-        b"n list blocks length year month day zero number row settled filed iR tR dd rank spare state flag value",
+        b"n list blocks length year month day zero number row settled filed iR tR dd rank copy state flag value",
     );
     let at = r.at + FIELD_AT[j] % 100;
     let width = FIELD_WIDTH[j] % 5;

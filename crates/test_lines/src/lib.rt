@@ -1,3 +1,3 @@
-// The lines that the program `test_engine` reads: their words, and a store's fields by name.
+// The lines that programs run (crate test_calls): their words, and a store's fields by name.
 pub mod fields;
 pub mod words;

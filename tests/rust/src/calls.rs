@@ -9,6 +9,8 @@ pub trait Calls {
     fn open(&self, store: &mut [u8], year: u32, month: u32, day: u32, stations: &[u32], rows: &[u16]) -> u32;
     fn file(&self, store: &mut [u8], text: &[u8], rank: u32) -> u32;
     fn settle(&self, store: &mut [u8], station: u32) -> u32;
+    fn begin(&self, store: &mut [u8], station: u32) -> u32;
+    fn step(&self, store: &mut [u8], station: u32) -> u32;
     /// `out`: state, flag, value.
     fn cell(&self, store: &[u8], station: u32, element: u32, slot: u32, out: &mut [i32; 3]) -> u32;
     /// `means` and `numbers`: see `day_arrays`.
@@ -32,6 +34,14 @@ impl Calls for Reference {
 
     fn settle(&self, store: &mut [u8], station: u32) -> u32 {
         number(reference::settle(store, station), |()| {})
+    }
+
+    fn begin(&self, store: &mut [u8], station: u32) -> u32 {
+        number(reference::begin(store, station), |()| {})
+    }
+
+    fn step(&self, store: &mut [u8], station: u32) -> u32 {
+        number(reference::step(store, station), |()| {})
     }
 
     fn cell(&self, store: &[u8], station: u32, element: u32, slot: u32, out: &mut [i32; 3]) -> u32 {
@@ -107,6 +117,14 @@ impl Calls for Engine {
 
     fn settle(&self, store: &mut [u8], station: u32) -> u32 {
         arrays::settle(store, station)
+    }
+
+    fn begin(&self, store: &mut [u8], station: u32) -> u32 {
+        arrays::begin(store, station)
+    }
+
+    fn step(&self, store: &mut [u8], station: u32) -> u32 {
+        arrays::step(store, station)
     }
 
     fn cell(&self, store: &[u8], station: u32, element: u32, slot: u32, out: &mut [i32; 3]) -> u32 {

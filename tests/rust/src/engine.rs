@@ -23,6 +23,8 @@ mod c {
             rank: u32,
         ) -> u32;
         pub fn esfenruk_settle(store: *mut u8, store_len: usize, station: u32) -> u32;
+        pub fn esfenruk_begin(store: *mut u8, store_len: usize, station: u32) -> u32;
+        pub fn esfenruk_step(store: *mut u8, store_len: usize, station: u32) -> u32;
         pub fn esfenruk_cell(
             store: *const u8,
             store_len: usize,
@@ -107,6 +109,15 @@ pub fn settle(store: &mut [u8], station: u32) -> Result<(), Number> {
     answer(arrays::settle(store, station), ())
 }
 
+/// Begins to settle a station in portions: four calls of `step` make range, internal, time and fill.
+pub fn begin(store: &mut [u8], station: u32) -> Result<(), Number> {
+    answer(arrays::begin(store, station), ())
+}
+
+pub fn step(store: &mut [u8], station: u32) -> Result<(), Number> {
+    answer(arrays::step(store, station), ())
+}
+
 pub fn cell(store: &[u8], station: u32, element: u32, slot: u32) -> Result<Cell, Number> {
     let mut out = [0; 3];
     let number = arrays::cell(store, station, element, slot, &mut out);
@@ -185,6 +196,14 @@ pub mod arrays {
 
     pub fn settle(store: &mut [u8], station: u32) -> u32 {
         unsafe { c::esfenruk_settle(store.as_mut_ptr(), store.len(), station) }
+    }
+
+    pub fn begin(store: &mut [u8], station: u32) -> u32 {
+        unsafe { c::esfenruk_begin(store.as_mut_ptr(), store.len(), station) }
+    }
+
+    pub fn step(store: &mut [u8], station: u32) -> u32 {
+        unsafe { c::esfenruk_step(store.as_mut_ptr(), store.len(), station) }
     }
 
     /// `out`: state, flag, value.

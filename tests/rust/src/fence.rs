@@ -85,6 +85,14 @@ impl Calls for Fenced<'_> {
         self.write(store, &[], |store, _| self.engine.settle(store, station))
     }
 
+    fn begin(&self, store: &mut [u8], station: u32) -> u32 {
+        self.write(store, &[], |store, _| self.engine.begin(store, station))
+    }
+
+    fn step(&self, store: &mut [u8], station: u32) -> u32 {
+        self.write(store, &[], |store, _| self.engine.step(store, station))
+    }
+
     fn cell(&self, store: &[u8], station: u32, element: u32, slot: u32, out: &mut [i32; 3]) -> u32 {
         self.read(store, |store| self.engine.cell(store, station, element, slot, out))
     }

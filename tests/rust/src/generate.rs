@@ -2,6 +2,7 @@
 //!
 //! A run is made of episodes; an episode is a short life of one buffer.
 
+mod portions;
 pub mod rng;
 pub mod stores;
 pub mod texts;
@@ -21,6 +22,8 @@ pub enum Call {
     Open(Opening),
     File { text: Vec<u8>, rank: u32 },
     Settle { station: u32 },
+    Begin { station: u32 },
+    Step { station: u32 },
     Cell { station: u32, element: u32, slot: u32 },
     Day { station: u32 },
     Bulletin { text: Vec<u8>, rank: u32 },
@@ -46,6 +49,8 @@ impl Call {
             Call::Open(_) => "open",
             Call::File { .. } => "file",
             Call::Settle { .. } => "settle",
+            Call::Begin { .. } => "begin",
+            Call::Step { .. } => "step",
             Call::Cell { .. } => "cell",
             Call::Day { .. } => "day",
             Call::Bulletin { .. } => "bulletin",
@@ -61,6 +66,8 @@ impl Call {
             Call::Open(o) => calls.open(store, o.year, o.month, o.day, &o.stations, &o.rows),
             Call::File { text, rank } => calls.file(store, text, *rank),
             Call::Settle { station } => calls.settle(store, *station),
+            Call::Begin { station } => calls.begin(store, *station),
+            Call::Step { station } => calls.step(store, *station),
             Call::Cell { station, element, slot } => calls.cell(store, *station, *element, *slot, &mut cell),
             Call::Day { station } => calls.day(store, *station, &mut means, &mut numbers),
             Call::Bulletin { text, rank } => calls.bulletin(store, text, *rank, &mut counts),
@@ -95,7 +102,9 @@ impl fmt::Display for Call {
                 write!(f, "open {} {} {} {:?} {:?}", o.year, o.month, o.day, o.stations, o.rows)
             }
             Call::File { text, rank } => write!(f, "file {rank} \"{}\"", text.escape_ascii()),
-            Call::Settle { station } => write!(f, "settle {station}"),
+            Call::Settle { station } | Call::Begin { station } | Call::Step { station } => {
+                write!(f, "{} {station}", self.name())
+            }
             Call::Cell { station, element, slot } => write!(f, "cell {station} {element} {slot}"),
             Call::Day { station } => write!(f, "day {station}"),
             Call::Bulletin { text, rank } => write!(f, "bulletin {rank} \"{}\"", text.escape_ascii()),
@@ -122,9 +131,10 @@ pub enum Step {
 pub fn episode(seed: u64) -> Vec<Step> {
     let mut rng = Rng::new(seed);
     let mut steps = match rng.below(100) {
-        0..=29 => full_day(&mut rng),
-        30..=59 => mixed(&mut rng),
-        60..=79 => texts_only(&mut rng),
+        0..=25 => full_day(&mut rng),
+        26..=49 => mixed(&mut rng),
+        50..=66 => texts_only(&mut rng),
+        67..=79 => portions::in_portions(&mut rng),
         80..=91 => hand_made(&mut rng),
         92..=95 => wrong_lengths(&mut rng),
         _ => openings(&mut rng),
@@ -196,23 +206,33 @@ impl Scene {
     fn any_call(&mut self, rng: &mut Rng) -> Call {
         let index = rng.below(self.weather.len());
         let station = self.any_station(rng, index);
-        match rng.below(20) {
+        match rng.below(24) {
             0..=7 => Call::File { text: self.any_text(rng), rank: any_rank(rng) },
             8..=10 => Call::Settle { station },
             11..=14 => Call::Cell { station, element: any_index(rng), slot: any_index(rng) },
             15..=17 => Call::Day { station },
+            18 => Call::Begin { station },
+            19..=21 => Call::Step { station },
             _ => Call::Bulletin { text: self.any_bulletin(rng), rank: any_rank(rng) },
         }
     }
 
     /// A report for a station and slot of the store, filed at a rank; of those above 0 some more are NIL.
     fn filing(&mut self, rng: &mut Rng, index: usize, slot: usize, rank: u32) -> Step {
-        let mut groups = self.report(rng, index, slot);
-        if rank > 0 && rng.chance(8) {
-            groups.truncate(3);
-            groups.push(b"NIL".to_vec());
-        }
+        let groups = if rank > 0 && rng.chance(8) {
+            self.nil(rng, index, slot)
+        } else {
+            self.report(rng, index, slot)
+        };
         Step::Call(Call::File { text: texts::join(rng, &groups), rank })
+    }
+
+    /// The groups of a NIL.
+    fn nil(&mut self, rng: &mut Rng, index: usize, slot: usize) -> Vec<Vec<u8>> {
+        let mut groups = self.report(rng, index, slot);
+        groups.truncate(3);
+        groups.push(b"NIL".to_vec());
+        groups
     }
 
     /// A text to file: mostly a report, at times damaged or no report at all.
@@ -454,10 +474,12 @@ fn hand_made(rng: &mut Rng) -> Vec<Step> {
     for _ in 0..20 + rng.below(40) {
         let index = rng.below(scene.weather.len());
         let station = scene.opening.stations[index];
-        let call = match rng.below(10) {
+        let call = match rng.below(14) {
             0 | 1 => Call::Settle { station },
             2..=5 => Call::Day { station },
             6 | 7 => look(rng, station),
+            8 => Call::Begin { station },
+            9..=11 => Call::Step { station },
             _ => scene.any_call(rng),
         };
         steps.push(if rng.chance(50) { damaged(rng, &scene.opening, call) } else { Step::Call(call) });

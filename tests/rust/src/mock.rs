@@ -3,6 +3,7 @@
 
 mod dry;
 mod humidity;
+mod portions;
 mod rank;
 mod vapour;
 
@@ -15,7 +16,7 @@ use std::slice;
 use std::sync::atomic::{AtomicUsize, Ordering};
 
 /// What the mock can do wrong; the first is nothing.
-pub const FAULTS: [&str; 107] = [
+pub const FAULTS: [&str; 174] = [
     "no fault",
     "open leaves the last byte as it was",
     "a refused open writes a byte",
@@ -69,7 +70,7 @@ pub const FAULTS: [&str; 107] = [
     "a report that replaces leaves the cells of the groups that it lacks",
     "rank 25 is sound in a filed slot",
     "a rank is sound in an unfiled slot",
-    "a spare byte other than 0 is sound",
+    "a copy of dd other than 0 is sound with no settling under way",
     "a bulletin above rank 24 has its reports refused one by one",
     "a bulletin above rank 24 has its heading tested first",
     "a bulletin's reports are filed at rank 0",
@@ -123,6 +124,73 @@ pub const FAULTS: [&str; 107] = [
     "a half looks three hours back",
     "a slot that was not filed ends no dry half",
     "24 hours do not decide first over a dry slot 8",
+    "a step works on the raw cells",
+    "internal reads the head's dd in portions",
+    "the copies of dd are 0 after internal",
+    "the copies of dd stay after fill",
+    "the last step settles a station that a report came for",
+    "the last step leaves its station unsettled",
+    "a step with no settling under way is accepted",
+    "a step with no settling under way begins one",
+    "a step for a station that is not in the store is answered 14",
+    "a step on an unsound store is answered 14",
+    "a step with no settling under way is answered 11",
+    "a step makes all that are left",
+    "the first step makes internal too",
+    "a step counts on over untouched cells",
+    "after a report the steps leave the cells as they are",
+    "after a report a step is answered 14",
+    "after a report the next step begins again",
+    "a step forgets that a report came",
+    "a step is made for every station",
+    "begin is refused while a settling is under way",
+    "begin changes nothing while a settling is under way",
+    "begin keeps that a report came",
+    "begin does not copy the cells",
+    "begin does not copy dd",
+    "begin again leaves the copies of dd as they are",
+    "begin copies 0 for the dd of an unfiled slot",
+    "begin copies the cells of filed slots alone",
+    "begin makes range already",
+    "begin leaves the settled number as it is",
+    "begin begins for every station",
+    "begin drops the settlings of other stations",
+    "settle leaves the copies of dd",
+    "settle is refused while a settling is under way",
+    "settle makes the steps that are left",
+    "settle reads the copies of dd",
+    "settle leaves the settled number of a settling under way",
+    "settle after a report leaves its station unsettled",
+    "a report clears its slot's copy of dd",
+    "a report writes its dd over the copy",
+    "a report leaves a copy of its dd with no settling under way",
+    "a report does not count while a settling is under way",
+    "a report drops a settling under way",
+    "a second report drops a settling under way",
+    "a second report counts four more",
+    "a report goes to the checked cells of a settling under way",
+    "reports are refused while a settling is under way",
+    "a report begins the settling again",
+    "reports of a bulletin do not count",
+    "a report in a free slot does not count",
+    "a report that replaces does not count",
+    "a report counts for every station",
+    "NIL counts as a report",
+    "a refused report counts",
+    "cell gives a cell while a settling is under way",
+    "day gives a line while a settling is under way",
+    "cell and day are answered 14 while a settling is under way",
+    "a copy of 37 is sound",
+    "a copy of 101 is sound",
+    "the copies of unfiled slots are not tested",
+    "slot 8's copy is not tested",
+    "a settled number of 10 is sound",
+    "of a settled number the low byte is tested",
+    "a copy of 99 is unsound",
+    "a copy of 100 is unsound",
+    "a copy that is not its slot's dd is unsound",
+    "an unfiled slot's copy other than 100 is unsound",
+    "settled numbers above 5 are unsound",
 ];
 
 static FAULT: AtomicUsize = AtomicUsize::new(0);
@@ -141,6 +209,17 @@ fn set(store: &mut [u8], record: Record, field: Field, number: u32) {
     for (at, byte) in record.edit(store::stations(store), field, number) {
         store[at] = byte;
     }
+}
+
+/// What an unsound store is taken for.
+fn taken_for_sound(store: &[u8]) -> Option<Vec<u8>> {
+    if fault(32) {
+        return Some(humid_temperatures_read(store));
+    }
+    if fault(51) || fault(52) {
+        return Some(heads_taken_for_sound(store));
+    }
+    portions::taken_for_sound(store)
 }
 
 // The pointers are those of `engine.rs`: of slices and arrays that are lent for the call.
@@ -191,6 +270,12 @@ unsafe extern "C" fn esfenruk_file(
 ) -> u32 {
     let store = lent_mut(store, store_len);
     let text = lent(text, text_len);
+    if portions::taken_for_unsound(store) {
+        return 9;
+    }
+    if let Some(number) = portions::file(store, text, rank, false) {
+        return number;
+    }
     let before = store.to_vec();
     let number = rank::file(store, text, rank);
     let nil = text.ends_with(b"NIL=");
@@ -215,7 +300,10 @@ unsafe extern "C" fn esfenruk_file(
 #[no_mangle]
 unsafe extern "C" fn esfenruk_settle(store: *mut u8, store_len: usize, station: u32) -> u32 {
     let store = lent_mut(store, store_len);
-    let number = Reference.settle(store, station);
+    if portions::taken_for_unsound(store) {
+        return 9;
+    }
+    let number = portions::settle(store, station);
     if number == 0 {
         humidity::settled(store, station);
         dry::settled(store, station);
@@ -229,6 +317,24 @@ unsafe extern "C" fn esfenruk_settle(store: *mut u8, store_len: usize, station: 
         }
     }
     number
+}
+
+#[no_mangle]
+unsafe extern "C" fn esfenruk_begin(store: *mut u8, store_len: usize, station: u32) -> u32 {
+    let store = lent_mut(store, store_len);
+    if portions::taken_for_unsound(store) {
+        return 9;
+    }
+    portions::begin(store, station)
+}
+
+#[no_mangle]
+unsafe extern "C" fn esfenruk_step(store: *mut u8, store_len: usize, station: u32) -> u32 {
+    let store = lent_mut(store, store_len);
+    if portions::taken_for_unsound(store) {
+        return 9;
+    }
+    portions::step(store, station)
 }
 
 #[no_mangle]
@@ -248,11 +354,13 @@ unsafe extern "C" fn esfenruk_cell(
     if fault(10) && number != 0 {
         *out = [0; 3];
     }
-    if fault(32) && number == 9 {
-        return Reference.cell(&humid_temperatures_read(store), station, element, slot, &mut *out);
+    if let (9, Some(store)) = (number, taken_for_sound(store)) {
+        return Reference.cell(&store, station, element, slot, &mut *out);
     }
-    if (51..54).any(fault) && number == 9 {
-        return Reference.cell(&heads_taken_for_sound(store), station, element, slot, &mut *out);
+    if number == 11 {
+        return portions::unsettled(store, station, false, |store| {
+            Reference.cell(store, station, element, slot, &mut *out)
+        });
     }
     if fault(33) && number == 0 && (*out)[0] == store::HUMIDITY.into() {
         (*out)[0] = store::READ.into();
@@ -285,11 +393,13 @@ unsafe extern "C" fn esfenruk_day(
     if fault(13) && number != 0 {
         means[5] = 0.0;
     }
-    if fault(32) && number == 9 {
-        return Reference.day(&humid_temperatures_read(store), station, means, numbers);
+    if let (9, Some(store)) = (number, taken_for_sound(store)) {
+        return Reference.day(&store, station, means, numbers);
     }
-    if (51..54).any(fault) && number == 9 {
-        return Reference.day(&heads_taken_for_sound(store), station, means, numbers);
+    if number == 11 {
+        return portions::unsettled(store, station, true, |store| {
+            Reference.day(store, station, means, numbers)
+        });
     }
     if number == 0 {
         humidity::day(store, station, means, numbers);
@@ -314,8 +424,9 @@ unsafe extern "C" fn esfenruk_bulletin(
     if fault(15) && text_len == 16384 {
         return 1;
     }
-    let number =
-        dry::bulletin(store, text, rank, counts).unwrap_or_else(|| rank::bulletin(store, text, rank, counts));
+    let number = dry::bulletin(store, text, rank, counts)
+        .or_else(|| portions::bulletin(store, text, rank, counts))
+        .unwrap_or_else(|| rank::bulletin(store, text, rank, counts));
     if fault(14) && number == 0 && matches!(text.last(), Some(b' ' | b'\r' | b'\n')) {
         counts[1] += 1;
     }

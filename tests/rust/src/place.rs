@@ -1,7 +1,7 @@
 //! What a text finds in a store, and what a bulletin holds, for those who look at it beside the call.
 
 use crate::reference::report::{self, groups};
-use crate::reference::store::{self, Cell, Head};
+use crate::reference::store::{self, Cell, Head, Settling};
 
 /// The slot that a text means, as it is.
 pub struct Place {
@@ -11,7 +11,8 @@ pub struct Place {
     pub head: Head,
     /// The raw ones.
     pub cells: [Cell; 9],
-    pub settled: bool,
+    /// How far the settling is.
+    pub settling: Settling,
     /// The text is a NIL.
     pub nil: bool,
 }
@@ -26,7 +27,7 @@ pub fn place(store: &[u8], text: &[u8]) -> Option<Place> {
         slot,
         head: store::head(block, slot),
         cells: store::raw_sheet(block)[slot],
-        settled: store::require_settled(store, index).is_ok(),
+        settling: store::settling(store, index),
         nil: report.observation.is_none(),
     })
 }

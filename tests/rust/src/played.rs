@@ -10,7 +10,7 @@
 //! open Y M D (S ROW)*                                         > ok
 //! file HEX RANK            a text in hex, `-` the empty one   > ok
 //! bulletin HEX RANK                                           > counts ACCEPTED REFUSED
-//! settle S                                                    > ok
+//! settle S, begin S, step S                                   > ok
 //! cell S ELEMENT SLOT                                         > cell STATE FLAG VALUE
 //! day S                                                       > day T D P W C E RAIN WARMEST COLDEST and four counts
 //! ```
@@ -64,6 +64,8 @@ fn call(word: &str, words: &[&str]) -> Option<Call> {
         ("file", [hex, rank]) => Call::File { text: text(hex)?, rank: rank.parse().ok()? },
         ("bulletin", [hex, rank]) => Call::Bulletin { text: text(hex)?, rank: rank.parse().ok()? },
         ("settle", [_]) => Call::Settle { station: numbers()?[0] },
+        ("begin", [_]) => Call::Begin { station: numbers()?[0] },
+        ("step", [_]) => Call::Step { station: numbers()?[0] },
         ("cell", [_, _, _]) => {
             let numbers = numbers()?;
             Call::Cell { station: numbers[0], element: numbers[1], slot: numbers[2] }

@@ -2,6 +2,7 @@
 //! A row for each, with the numbers that must come up in it; one that never did shows as 0.
 
 mod dry;
+mod portions;
 mod ranks;
 
 use crate::generate::stores::Opening;
@@ -19,6 +20,8 @@ pub const ROWS: &[(&str, &[u32])] = &[
     ("open", &[0, 10]),
     ("file", &[0, 1, 2, 3, 4, 5, 6, 7, 8, 9, 13]),
     ("settle", &[0, 6, 9]),
+    ("begin", &[0, 6, 9]),
+    ("step", &[0, 6, 9, 14]),
     ("cell", &[0, 6, 9, 11, 12]),
     ("day", &[0, 6, 9, 11]),
     ("bulletin", &[0, 1, 3, 4, 9, 13]),
@@ -38,6 +41,9 @@ pub const ROWS: &[(&str, &[u32])] = &[
     ("unsound: humidity", &[0, 1, 2, 3]),
     // 0 above 24 in a filed slot; in an unfiled one, 1 from 1 to 24, 2 above.
     ("unsound: rank", &[0, 1, 2]),
+    ("unsound: settled number", &[0, 1, 10, 11, 255, 256, 258, 65535]),
+    // Above 0 where the settled number is 0 or 1; under way: 2 from 37 to 98, 3 above 100.
+    ("unsound: copy of dd", &[0, 1, 2, 3]),
     ("file: bytes of an accepted text", &[511, 512]),
     ("file: bytes of a text refused 1", &[0, 1, 512, 513]),
     ("file: slot", &[0, 1, 2, 3, 4, 5, 6, 7, 8]),
@@ -62,7 +68,11 @@ pub const ROWS: &[(&str, &[u32])] = &[
     ("file: slot's rank, refused 13 below it", first(25).split_at(1).1),
     ("file: rank that replaced a lower one", first(25).split_at(1).1),
     ("file: letters skipped where replaced", &[0, 1, 2, 23]),
-    ("file: replaced where settled was", &[0, 1]),
+    ("file: replaced where settled was", first(10)),
+    ("file: settled number, accepted", first(10)),
+    ("file: settled number, dd not its copy", first(10).split_at(2).1),
+    ("file: settled number, NIL", first(10)),
+    ("file: settled number, refused 8 or 13", first(10)),
     ("file: slot of a dry report", first(9)),
     // At slots 0, 2, 4, 6 and 8.
     ("file: iR without a group 6", first(6)),
@@ -100,8 +110,21 @@ pub const ROWS: &[(&str, &[u32])] = &[
     // 0 by internal, above T; 1 by time, far from both dew points beside it; as a neighbour: 2 by time, of a dew point
     // far from it and from the other one; 3 by fill, of a missing D with another one.
     ("settle: a humidity passed over", &[0, 1, 2, 3]),
+    ("settle: settled number", first(10)),
+    ("begin: settled number", first(10)),
+    // 0 and 1 are refused 14.
+    ("step: settled number", first(10)),
+    ("step: cells' states before range", first(5)),
+    ("step: cells' states before internal", first(5)),
+    ("step: cells' states before time", first(5)),
+    ("step: cells' states before fill", first(5)),
+    // 2 where the copy alone makes it suspect, 1 where the head's dd alone would, 0 and 3 where they agree.
+    ("step: W suspect by the copy, by dd", first(4)),
+    ("step: others under way", &[0, 1]),
+    ("cell: settled number, refused 11", &[0, 2, 3, 4, 5, 6, 7, 8, 9]),
     ("cell: state", &[0, 1, 2, 3, 4]),
     ("cell: a humidity's flag", &[0, 1, 2, 3, 4]),
+    ("day: settled number, refused 11", &[0, 2, 3, 4, 5, 6, 7, 8, 9]),
     ("day: T's mean", &[0, 1, 2]),
     ("day: D's mean", &[0, 1, 2]),
     ("day: P's mean", &[0, 1, 2]),
@@ -139,6 +162,7 @@ pub const ROWS: &[(&str, &[u32])] = &[
     ("bulletin: above 24, at 24 answered", &[0, 1, 3, 4]),
     // 0 free; filed: 1 replaced, 2 refused 8 at rank 0, 3 at a higher one, 4 refused 13, 5 NIL below its rank.
     ("bulletin: slot that a report met", &[0, 1, 2, 3, 4, 5]),
+    ("bulletin: settled number, accepted", first(10)),
     ("bulletin: slot of a dry report", first(9)),
     ("bulletin: iR without a group 6", first(6)),
     ("bulletin: group 6 under iR 3", first(8)),
@@ -155,10 +179,28 @@ const fn first(n: usize) -> &'static [u32] {
 /// Ranks above 24; the low bytes of some are not.
 const ABOVE_24: &[u32] = &[25, 26, 127, 128, 255, 256, 257, 1 << 16, 1 << 31, u32::MAX];
 
-const READ: usize = 44;
-const STATE: usize = READ + 9;
-const FLAG: usize = STATE + 9;
-const MEAN: usize = FLAG + 12;
+/// The first of rows that stand in the order of elements or means.
+const READ: usize = place_of("T read");
+const STATE: usize = place_of("settle: T's state");
+const FLAG: usize = place_of("settle: T's flag");
+const MEAN: usize = place_of("day: T's mean");
+
+/// The place of a row.
+const fn place_of(name: &str) -> usize {
+    let mut at = 0;
+    while !same(ROWS[at].0.as_bytes(), name.as_bytes()) {
+        at += 1;
+    }
+    at
+}
+
+const fn same(one: &[u8], other: &[u8]) -> bool {
+    let mut at = 0;
+    while at < one.len() && at < other.len() && one[at] == other[at] {
+        at += 1;
+    }
+    at == one.len() && at == other.len()
+}
 
 /// How often each number came up in each row.
 #[derive(Default)]
@@ -183,6 +225,9 @@ impl Reached {
             Step::Damaged { edits, call } => (edits.as_slice(), call),
         };
         self.add(call.name(), answer.number);
+        if answer.number != 9 {
+            self.portions(call, before, store, answer.number);
+        }
         match (call, answer.number) {
             (Call::Open(opening), number) => self.open(opening, store, number),
             (_, 9) => self.unsound(store, edits),
@@ -250,6 +295,7 @@ impl Reached {
         self.add(row, field as u32);
         self.unsound_humidity(store, n, record);
         self.unsound_rank(store, n, record);
+        self.unsound_settling(store, n, edits);
     }
 
     /// The one thing that makes a cell of state 4 unsound, in a buffer as long as a store of n stations.

@@ -1,6 +1,6 @@
 //! The papers in plain Rust, section by section: document 01's calls on a lent buffer; of document 02, S-1
 //! (`vapour::fill`), which has no buffer of that kind, S-2, a humidity in D's cell, S-3, the ranks of reports, S-4, the
-//! vapour table as whole entries and differences, and S-5, dry stations.
+//! vapour table as whole entries and differences, S-5, dry stations, and S-6, settling in portions.
 //!
 //! Written from the papers alone. Every call on a buffer but open tests the whole of it first, and a refused
 //! call writes nothing.
@@ -53,6 +53,21 @@ pub fn settle(store: &mut [u8], station: u32) -> Result<(), Refusal> {
     let index = store::find(store, station)?;
     settle::settle(store, index);
     Ok(())
+}
+
+/// Begins to settle a station in portions.
+pub fn begin(store: &mut [u8], station: u32) -> Result<(), Refusal> {
+    store::require_sound(store)?;
+    let index = store::find(store, station)?;
+    settle::begin(store, index);
+    Ok(())
+}
+
+/// Makes the next of the four steps of a settling under way.
+pub fn step(store: &mut [u8], station: u32) -> Result<(), Refusal> {
+    store::require_sound(store)?;
+    let index = store::find(store, station)?;
+    settle::step(store, index)
 }
 
 /// One checked cell.

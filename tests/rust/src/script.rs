@@ -1,6 +1,7 @@
 //! Calls written as lines of text: inputs that are kept to be made again, and those of the fuzzer.
 //!
-//! The first letter of a line says what it is; a line that is none of these is passed over.
+//! The first letter of a line says what it is, the first two where two words share it; a line that is none of these is
+//! passed over.
 //!
 //! ```text
 //! lend N stations          a buffer as long as a store of N, to work on from now on, none of its bytes 0
@@ -14,6 +15,8 @@
 //! bulletin RANK TEXT
 //! grow N                   the next text has N bytes, by spaces before its last byte
 //! settle S
+//! begin S
+//! step S
 //! cell S ELEMENT SLOT
 //! day S
 //! table N                  the vapour table, to a slice of N numbers of which it has none
@@ -25,7 +28,7 @@
 //! ```text
 //! header                   n list blocks length year month day zero
 //! entry S                  number row settled
-//! head S SLOT              filed iR tR dd rank spare
+//! head S SLOT              filed iR tR dd rank copy
 //! raw S ELEMENT SLOT       state flag value       ELEMENT is one of T D P W C V R X M
 //! checked S ELEMENT SLOT   state flag value
 //! ```
@@ -75,36 +78,35 @@ impl Reader {
         let (word, rest) = (parts.next().unwrap_or(b""), parts.next().unwrap_or(b""));
         let words = &mut rest.split(|&byte| byte == b' ').filter(|word| !word.is_empty());
         let mut next = || number(words.next().unwrap_or(b""));
-        match word.first() {
-            Some(b'l') => self.lend(vec![0xa5; buffer_length(words)]),
-            Some(b'm') => {
+        match word {
+            [b'l', ..] => self.lend(vec![0xa5; buffer_length(words)]),
+            [b'm', ..] => {
                 if let Some(opening) = &self.opening {
                     self.lend(hand_made(&mut Rng::new(next().into()), opening));
                 }
             }
-            Some(b'e') => {
+            [b'e', ..] => {
                 let edits = self.edits_of(words).unwrap_or_default();
                 self.edits.extend(edits.into_iter().filter(|&(at, _)| at < self.len));
             }
-            Some(b'o') => {
+            [b'o', ..] => {
                 let (year, month, day) = (next(), next(), next());
                 let stations = list(words.next().unwrap_or(b""));
                 let rows = list(words.next().unwrap_or(b"")).into_iter().map(|row| row as u16).collect();
                 self.open(Opening { year, month, day, stations, rows });
             }
-            Some(b'g') => self.grown = LONGEST_TEXT.min(next() as usize),
-            Some(b'f') => {
+            [b'g', ..] => self.grown = LONGEST_TEXT.min(next() as usize),
+            [b'b', b'e', ..] => self.call(Call::Begin { station: next() }),
+            [b'f', ..] | [b'b', ..] => {
                 let (rank, text) = self.ranked(rest);
-                self.call(Call::File { text, rank });
+                let file = word[0] == b'f';
+                self.call(if file { Call::File { text, rank } } else { Call::Bulletin { text, rank } });
             }
-            Some(b'b') => {
-                let (rank, text) = self.ranked(rest);
-                self.call(Call::Bulletin { text, rank });
-            }
-            Some(b's') => self.call(Call::Settle { station: next() }),
-            Some(b'c') => self.call(Call::Cell { station: next(), element: next(), slot: next() }),
-            Some(b'd') => self.call(Call::Day { station: next() }),
-            Some(b't') => self.table(next() as usize),
+            [b's', b't', ..] => self.call(Call::Step { station: next() }),
+            [b's', ..] => self.call(Call::Settle { station: next() }),
+            [b'c', ..] => self.call(Call::Cell { station: next(), element: next(), slot: next() }),
+            [b'd', ..] => self.call(Call::Day { station: next() }),
+            [b't', ..] => self.table(next() as usize),
             _ => {}
         }
     }

@@ -2,6 +2,7 @@
 //! store, every date, every short list of groups. The store is mostly that of 2024-04-11 and station 40001.
 
 mod dry;
+mod portions;
 mod ranks;
 
 use crate::generate::stores::{fresh, Edits, Opening};
@@ -17,7 +18,7 @@ type Take<'a> = &'a mut dyn FnMut(Step);
 
 type Sweep = fn(Take);
 
-pub const SWEEPS: [(&str, Sweep); 39] = [
+pub const SWEEPS: [(&str, Sweep); 48] = [
     ("each byte of a store, each value", bytes_of_a_store),
     ("each field of a store, beside where soundness turns", fields_of_a_store),
     ("each cell's state, flag and value together", cells_of_a_store),
@@ -45,7 +46,7 @@ pub const SWEEPS: [(&str, Sweep); 39] = [
     ("humidities through the steps", humid_steps),
     ("each T with a humidity", humid_temperatures),
     ("day lines with humidities", humid_days),
-    ("each head's filed, rank and spare byte together", ranks::heads_of_a_store),
+    ("each head's filed, rank and last byte together", ranks::heads_of_a_store),
     ("each rank after each rank", ranks::pairs),
     ("NIL at each rank", ranks::nils),
     ("each rank with each refusal of a text", ranks::refused_texts),
@@ -57,6 +58,15 @@ pub const SWEEPS: [(&str, Sweep); 39] = [
     ("each iR and tR in a half of the rain", dry::halves),
     ("iR, tR and R in both halves", dry::four_slots),
     ("R in each state at and before a dry end", dry::states),
+    ("each settled number with each copy of dd", portions::numbers_and_copies),
+    ("settled numbers of two stations with copies of dd", portions::numbers_of_two),
+    ("each byte of an entry and heads, under way", portions::bytes_under_way),
+    ("settling in portions in each order", portions::orders),
+    ("texts at each settled number", portions::filings),
+    ("each value through range alone", portions::range),
+    ("three values through time, then fill", portions::time_and_fill),
+    ("each copy of dd with each dd through internal alone", portions::internal),
+    ("each state and flag through each step alone", portions::states),
 ];
 
 const STATION: u32 = 40001;
@@ -166,9 +176,15 @@ fn number_in(store: &[u8], record: Record, field: Field) -> u32 {
 }
 
 /// The numbers where soundness turns, the one that stands there, the stations', bytes in the wrong order, the ends of
-/// one, two and four bytes: each of these, and the numbers beside it. Heads also where all slots are filed, at any rank.
+/// one, two and four bytes: each of these, and the numbers beside it. Heads also where all slots are filed, at any rank;
+/// heads and entries also where both stations' settlings are under way.
 fn fields_of_a_store(take: Take) {
     fields_of(take, &two(), |_| true);
+    let mut begun = two();
+    for station in STATIONS {
+        reference::begin(&mut begun, station).expect("a station");
+    }
+    fields_of(take, &begun, |record| matches!(record, Record::Entry { .. } | Record::Head { .. }));
     let mut filed = two();
     for (index, slot) in (0..TWO).flat_map(|index| (0..9).map(move |slot| (index, slot))) {
         let head = Head { filed: 1, rank: 3 * slot as u8, ..Head::UNFILED };
@@ -234,6 +250,8 @@ fn lengths(take: Take) {
             file(text.clone()),
             bulletin(text),
             Call::Settle { station: n },
+            Call::Begin { station: n },
+            Call::Step { station: n },
             Call::Open(Opening { year: 2024, month: 4, day: 11, stations, rows }),
         ]
     };
@@ -334,28 +352,33 @@ fn range(take: Take) {
     }
 }
 
-/// Three values of an element in a row, in slots 0 to 2 and 6 to 8, one of them missing at times.
+/// Every three of these in a row.
+fn threes<A: Copy>(items: Vec<A>) -> impl Iterator<Item = [A; 3]> {
+    let n = items.len();
+    (0..n.pow(3)).map(move |number| [number / n / n, number / n % n, number % n].map(|at| items[at]))
+}
+
+/// An element and three values of it round the limits of time and fill, some missing.
+fn triples() -> impl Iterator<Item = (usize, [Option<i32>; 3])> {
+    let steps = [-201, -151, -150, -101, -100, -99, -51, -50, -49, -1, 0, 1, 2, 50, 99, 100, 101, 202];
+    let middles = [(T, 0), (T, 60), (D, 0), (P, 10000), (W, 200), (C, 4)];
+    middles.into_iter().flat_map(move |(element, middle)| {
+        let values = steps.map(|step| Some(middle + step)).into_iter().chain([None]);
+        threes(values.collect()).map(move |three| (element, three))
+    })
+}
+
+/// Three raw cells of an element in a row, in slots 0 to 2 and 6 to 8.
+fn in_a_row(element: usize, three: [Cell; 3]) -> Edits {
+    let places = [(0, 0), (1, 1), (2, 2), (6, 0), (7, 1), (8, 2)];
+    places.into_iter().flat_map(|(slot, i)| whole_cell(raw(slot, element), three[i])).collect()
+}
+
 fn neighbours(take: Take) {
-    let around = |middle: i32| {
-        let steps = [-201, -151, -150, -101, -100, -99, -51, -50, -49, -1, 0, 1, 2, 50, 99, 100, 101, 202];
-        let present = steps.map(|step| Some(middle + step));
-        present.into_iter().chain([None]).collect::<Vec<_>>()
-    };
     lend(take);
-    for (element, middle) in [(T, 0), (T, 60), (D, 0), (P, 10000), (W, 200), (C, 4)] {
-        let values = around(middle);
-        for a in &values {
-            for v in &values {
-                for b in &values {
-                    let three = [(0, a), (1, v), (2, b), (6, a), (7, v), (8, b)];
-                    let edits = three
-                        .into_iter()
-                        .flat_map(|(slot, &value)| cell(raw(slot, element), value))
-                        .collect();
-                    take(Step::Damaged { edits, call: Call::Settle { station: STATION } });
-                }
-            }
-        }
+    for (element, three) in triples() {
+        let edits = in_a_row(element, three.map(|value| Cell::raw(value.map(|value| value as i16))));
+        take(Step::Damaged { edits, call: Call::Settle { station: STATION } });
     }
 }
 
@@ -472,7 +495,7 @@ fn other_numbers(take: Take) {
     let mut store = opened([2024, 4, 11], 0);
     // Heads and cells that hold numbers beyond the station's, and are sound.
     let block = store::block_mut(&mut store, 0);
-    let head = Head { filed: 1, ir: 1, tr: 2, dd: 3, rank: 4, spare: 0 };
+    let head = Head { filed: 1, ir: 1, tr: 2, dd: 3, rank: 4, dd_copy: 0 };
     (0..9).for_each(|slot| store::put_head(block, slot, head));
     let cell = |slot: usize, e: usize| Cell { state: 1, flag: 0, value: 256 + (9 * slot + e) as i16 };
     let sheet = std::array::from_fn(|slot| std::array::from_fn(|element| cell(slot, element)));
@@ -480,8 +503,11 @@ fn other_numbers(take: Take) {
     store::put_checked(block, &sheet);
     take(Step::Lend(store.clone()));
     for number in store.windows(4).map(|four| u32::from_be_bytes([four[0], four[1], four[2], four[3]])) {
-        take(Step::Call(Call::Settle { station: number }));
-        take(Step::Call(Call::Cell { station: number, element: 0, slot: 0 }));
+        let cell = Call::Cell { station: number, element: 0, slot: 0 };
+        let others = [Call::Begin { station: number }, Call::Step { station: number }];
+        for call in [Call::Settle { station: number }, cell].into_iter().chain(others) {
+            take(Step::Call(call));
+        }
     }
 }
 
@@ -582,21 +608,20 @@ fn humid_cells(take: Take) {
     }
 }
 
-/// Three of D's raw cells in a row, dew points, humidities or missing, in slots 0 to 2 and 6 to 8; then a humidity with
-/// each T beside it.
-fn humid_steps(take: Take) {
+/// Three of D's cells: dew points, humidities or missing.
+fn humid_triples() -> impl Iterator<Item = [Cell; 3]> {
     let dew_points = [-151, -101, -100, -99, -51, -50, -1, 0, 1, 49, 51, 100, 101, 149, 151, 200, 201, 202];
-    let cells: Vec<Cell> = (dew_points.map(|value| Cell::raw(Some(value))).into_iter())
+    let cells = (dew_points.map(|value| Cell::raw(Some(value))).into_iter())
         .chain([1, 50, 100].map(Cell::raw_humidity))
-        .chain([Cell::MISSING])
-        .collect();
+        .chain([Cell::MISSING]);
+    threes(cells.collect())
+}
+
+/// Three of D's raw cells in a row; then a humidity with each T beside it.
+fn humid_steps(take: Take) {
     lend(take);
-    for a in &cells {
-        for (v, b) in cells.iter().flat_map(|v| cells.iter().map(move |b| (v, b))) {
-            let three = [(0, a), (1, v), (2, b), (6, a), (7, v), (8, b)];
-            let edits = three.into_iter().flat_map(|(slot, &cell)| whole_cell(raw(slot, D), cell)).collect();
-            take(Step::Damaged { edits, call: Call::Settle { station: STATION } });
-        }
+    for three in humid_triples() {
+        take(Step::Damaged { edits: in_a_row(D, three), call: Call::Settle { station: STATION } });
     }
     for t in -160..=490 {
         for percent in [1, 50, 100] {

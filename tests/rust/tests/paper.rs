@@ -2,10 +2,12 @@
 
 use reading::calls::Reference;
 use reading::dayline::DayLines;
+use reading::generate::rng::Rng;
+use reading::generate::stores::{hand_made, Opening};
 use reading::generate::{episode, no_entries, Call, Step};
 use reading::reference::calendar::Date;
 use reading::reference::layout::{self, block_at, entry_at, store_length, Field, Record};
-use reading::reference::store::Head;
+use reading::reference::store::{Head, Settling};
 use reading::reference::{self, report, settle, store, values, vapour, Cell, Mean, Tally};
 
 fn opened(stations: &[u32]) -> Vec<u8> {
@@ -146,7 +148,7 @@ fn a_humidity_over_a_corrected_t() {
 #[test]
 fn a_humidity_over_any_t() {
     let mut store = opened(&[1]);
-    store::set_settled(&mut store, 0, 1);
+    store::set_settling(&mut store, 0, Settling::Settled);
     for (t, pressure) in [(-32767, None), (-501, None), (-500, Some(3)), (500, Some(6210)), (501, None)] {
         let mut sheet = [[Cell::MISSING; 9]; 9];
         for cells in &mut sheet {
@@ -323,9 +325,9 @@ fn lengths_with_ranks() {
         assert_eq!(store_length(n), 16 + 710 * n);
     }
     let head = |store: &[u8]| store::head(store::block(store, 0), 0);
-    assert_eq!(head(&opened(&[1])), Head { filed: 0, ir: 5, tr: 0, dd: 100, rank: 0, spare: 0 });
+    assert_eq!(head(&opened(&[1])), Head { filed: 0, ir: 5, tr: 0, dd: 100, rank: 0, dd_copy: 0 });
     for rank in 0..=24 {
-        let filed = Head { filed: 1, ir: 1, tr: 2, dd: 27, rank, spare: 0 };
+        let filed = Head { filed: 1, ir: 1, tr: 2, dd: 27, rank, dd_copy: 0 };
         assert_eq!(head(&filed_at(rank.into())), filed);
     }
 }
@@ -629,7 +631,7 @@ fn a_dry_day_of_24_hours() {
 fn the_halves_of_any_store() {
     let made = |before: (u8, Cell), end: (u8, u8, Cell)| {
         let mut store = opened(&[1]);
-        store::set_settled(&mut store, 0, 1);
+        store::set_settling(&mut store, 0, Settling::Settled);
         let block = store::block_mut(&mut store, 0);
         let mut sheet = [[Cell::MISSING; 9]; 9];
         for (slot, (ir, tr, cell)) in [(2, (5, before.0, before.1)), (4, end), (8, (0, 2, read_cell(1)))] {
@@ -684,6 +686,332 @@ fn the_printed_day_of_a_dry_station() {
         }
     }
     assert_eq!(lines.finish(), "40001 0 - - 12 0 1 68\n40002 30 - - 12 0 1 68\nrefused 0\n");
+}
+
+/// Slots 0 to 4 of a day on which each step changes a cell: calm with wind, wind 0 with a direction, T with its sign
+/// turned, D above T, T out of range.
+const EVENTFUL: [&str; 5] = [
+    "12360 60005 10060 20050",
+    "12360 62700 11070",
+    "12360 62704 10080 20090",
+    "12360 62704 10490",
+    "12360 62704 10084",
+];
+
+fn eventful() -> Vec<u8> {
+    let mut store = opened(&[1, 2]);
+    for (time, groups) in TIMES.iter().zip(EVENTFUL) {
+        assert_eq!(file(&mut store, &format!("AAXX {time}1 00001 {groups}=")), 0);
+    }
+    store
+}
+
+/// A report for slot 0 that differs in all that settling looks at, and one for a free slot.
+const AMENDED: &str = "AAXX 11061 00001 12360 62700 10300 20310=";
+const LATE: &str = "AAXX 12061 00001 12360 60005 10300 20310=";
+
+fn begin(store: &mut [u8], station: u32) -> u32 {
+    reference::begin(store, station).map_or_else(|refusal| refusal.number(), |()| 0)
+}
+
+fn step(store: &mut [u8], station: u32) -> u32 {
+    reference::step(store, station).map_or_else(|refusal| refusal.number(), |()| 0)
+}
+
+/// The first station's settled number, its copies of dd, and T, D and W of its first five slots' checked cells.
+fn progress(store: &[u8]) -> (u16, [u8; 9], [[Cell; 5]; 3]) {
+    let block = store::block(store, 0);
+    let sheet = store::checked_sheet(block);
+    let column = |element: usize| std::array::from_fn(|slot| sheet[slot][element]);
+    let copies = std::array::from_fn(|slot| store::head(block, slot).dd_copy);
+    (store::settling(store, 0).number(), copies, [store::T, store::D, store::W].map(column))
+}
+
+/// "Begin copies S's raw cells to its checked cells and each slot's dd to the last head byte, which internal reads and which
+/// is 0 again after fill; four step calls then do range, internal, time and fill, one each."
+#[test]
+fn four_steps() {
+    let mut store = eventful();
+    let (raw, heads) =
+        (store::raw_sheet(store::block(&store, 0)), store[block_at(2, 0)..][..layout::RAW].to_vec());
+    let cell = |state, flag, value| Cell { state, flag, value };
+    let none = Cell::MISSING;
+    let mut t = [60, -70, 80, 490, 84].map(read_cell);
+    let mut d = [read_cell(50), none, read_cell(90), none, none];
+    let mut w = [50, 0, 40, 40, 40].map(read_cell);
+    let copies = [0, 27, 27, 27, 27, 100, 100, 100, 100];
+    assert_eq!(begin(&mut store, 1), 0);
+    assert_eq!(progress(&store), (2, copies, [t, d, w]));
+    assert_eq!(store::checked_sheet(store::block(&store, 0)), raw);
+    // Lowland warm: −70 is below min1, 490 above max2.
+    (t[1], t[3]) = (cell(1, 4, -70), cell(0, 1, 0));
+    assert_eq!(step(&mut store, 1), 0);
+    assert_eq!(progress(&store), (3, copies, [t, d, w]));
+    (w[0].flag, w[1].flag, d[2]) = (4, 4, cell(0, 2, 0));
+    assert_eq!(step(&mut store, 1), 0);
+    assert_eq!(progress(&store), (4, copies, [t, d, w]));
+    t[1] = cell(2, 3, 70);
+    assert_eq!(step(&mut store, 1), 0);
+    assert_eq!(progress(&store), (5, copies, [t, d, w]));
+    // floor((80 + 84 + 1) / 2).
+    t[3] = cell(3, 1, 82);
+    assert_eq!(step(&mut store, 1), 0);
+    assert_eq!(progress(&store), (1, [0; 9], [t, d, w]));
+    assert_eq!(store[block_at(2, 0)..][..layout::RAW], heads);
+    let mut settled = eventful();
+    reference::settle(&mut settled, 1).unwrap();
+    assert_eq!(store, settled);
+}
+
+/// "Reports for S may be filed in between. They go to head and raw cells and do not touch the settling. When the fourth step
+/// ends, the checked cells are those of the raw cells and dd at begin, and S is settled exactly if no report for S but NIL
+/// was accepted since."
+#[test]
+fn a_report_between_steps() {
+    let mut alone = eventful();
+    reference::settle(&mut alone, 1).unwrap();
+    for (made, report) in (0..4).flat_map(|made| [AMENDED, LATE].map(|report| (made, report))) {
+        for by_bulletin in [false, true] {
+            let mut store = eventful();
+            assert_eq!(begin(&mut store, 1), 0);
+            (0..made).for_each(|_| assert_eq!(step(&mut store, 1), 0));
+            let before = progress(&store);
+            if by_bulletin {
+                let tally = reference::bulletin(&mut store, report.as_bytes(), 1).unwrap();
+                assert_eq!(tally, Tally { accepted: 1, refused: 0 });
+            } else {
+                assert_eq!(file_at(&mut store, report, 1), 0);
+            }
+            // 2 to 5 become 6 to 9; copies and checked cells stay, head and raw cells are the report's.
+            assert_eq!(progress(&store), (before.0 + 4, before.1, before.2), "{made} {report}");
+            let mut filed = eventful();
+            assert_eq!(file_at(&mut filed, report, 1), 0);
+            // Another one changes no number.
+            assert_eq!(file_at(&mut store, report, 2), 0);
+            assert_eq!(file_at(&mut filed, report, 2), 0);
+            assert_eq!(progress(&store).0, before.0 + 4);
+            (made..4).for_each(|_| assert_eq!(step(&mut store, 1), 0));
+            assert_eq!(reference::day(&store, 1).unwrap_err().number(), 11);
+            assert_eq!(progress(&store), (0, [0; 9], progress(&alone).2), "{made} {report}");
+            // But for the checked cells it is the store with the reports alone.
+            let checked = store::checked_sheet(store::block(&alone, 0));
+            store::put_checked(store::block_mut(&mut filed, 0), &checked);
+            assert_eq!(store, filed, "{made} {report}");
+        }
+    }
+}
+
+/// NIL, refused reports and another station's do not touch a settling under way, nor whether it settles.
+#[test]
+fn what_is_no_report_between_steps() {
+    let others = [
+        (NIL, 0, 0),
+        (NIL, 24, 0),
+        (NIL, 25, 13),
+        (AMENDED, 0, 8),
+        (LATE, 25, 13),
+        ("AAXX 11071 00001 12360 62704=", 0, 7),
+        ("AAXX 11061 00001 12360=", 0, 5),
+    ];
+    for made in 0..4 {
+        let mut store = eventful();
+        assert_eq!(begin(&mut store, 1), 0);
+        (0..made).for_each(|_| assert_eq!(step(&mut store, 1), 0));
+        let before = store.clone();
+        for (text, rank, number) in others {
+            assert_eq!(file_at(&mut store, text, rank), number, "{text} {rank}");
+            assert_eq!(store, before);
+        }
+        let second = AMENDED.replace("00001", "00002");
+        assert_eq!(file(&mut store, &second), 0);
+        assert_eq!(begin(&mut store, 2), 0);
+        assert_eq!(progress(&store), progress(&before));
+        (made..4).for_each(|_| assert_eq!(step(&mut store, 1), 0));
+        let number = |index: usize| store::settling(&store, index).number();
+        assert_eq!([number(0), number(1)], [1, 2]);
+    }
+}
+
+/// "Beginning again restarts. The one-call settle equals begin and four steps, and drops a settling under way." A cell and a
+/// day line are there at settled number 1 alone.
+#[test]
+fn begun_again_and_dropped() {
+    for (made, reported) in (0..4).flat_map(|made| [false, true].map(|reported| (made, reported))) {
+        let mut store = eventful();
+        assert_eq!(begin(&mut store, 1), 0);
+        if reported {
+            assert_eq!(file_at(&mut store, AMENDED, 1), 0);
+        }
+        (0..made).for_each(|_| assert_eq!(step(&mut store, 1), 0));
+        assert_eq!(progress(&store).0, 2 + made + if reported { 4 } else { 0 });
+        assert_eq!(reference::cell(&store, 1, 0, 0).unwrap_err().number(), 11);
+        assert_eq!(reference::cell(&store, 1, 9, 0).unwrap_err().number(), 12);
+        assert_eq!(reference::day(&store, 1).unwrap_err().number(), 11);
+        let mut filed = eventful();
+        if reported {
+            assert_eq!(file_at(&mut filed, AMENDED, 1), 0);
+        }
+        let (mut again, mut settled) = (store.clone(), store);
+        assert_eq!([begin(&mut again, 1), begin(&mut filed, 1)], [0, 0]);
+        assert_eq!(again, filed);
+        (0..4).for_each(|_| assert_eq!(step(&mut again, 1), 0));
+        reference::settle(&mut settled, 1).unwrap();
+        assert_eq!(settled, again);
+        assert_eq!(step(&mut settled, 1), 14);
+        assert!(reference::day(&settled, 1).is_ok());
+        // Settled before, and begun: no longer.
+        assert_eq!(begin(&mut settled, 1), 0);
+        assert_eq!(reference::day(&settled, 1).unwrap_err().number(), 11);
+    }
+}
+
+/// "Refused: 14, a step with no settling under way, tested after 9 and 6."
+#[test]
+fn refused_steps() {
+    let mut store = eventful();
+    assert_eq!([step(&mut store, 1), step(&mut store, 3)], [14, 6]);
+    assert_eq!([step(&mut [], 1), begin(&mut [], 1)], [9, 9]);
+    assert_eq!(begin(&mut store, 3), 6);
+    assert_eq!(begin(&mut store, 2), 0);
+    assert_eq!([step(&mut store, 1), step(&mut store, 3)], [14, 6]);
+    assert_eq!(store::settling(&store, 0), Settling::Unsettled);
+    (0..4).for_each(|_| assert_eq!(step(&mut store, 2), 0));
+    let before = store.clone();
+    assert_eq!(step(&mut store, 2), 14);
+    assert_eq!(store, before);
+}
+
+/// On sound stores of every kind, at every settled number.
+#[test]
+fn settle_is_begin_and_four_steps() {
+    let rng = &mut Rng::new(6);
+    let mut numbers = [0; 10];
+    for _ in 0..300 {
+        let opening = Opening::good(rng);
+        let store = hand_made(rng, &opening);
+        for (index, &station) in opening.stations.iter().enumerate() {
+            numbers[store::settling(&store, index).number() as usize] += 1;
+            let (mut one, mut five) = (store.clone(), store.clone());
+            reference::settle(&mut one, station).unwrap();
+            assert_eq!(begin(&mut five, station), 0);
+            (0..4).for_each(|_| assert_eq!(step(&mut five, station), 0));
+            assert!(one == five, "{opening:?} {station}");
+        }
+    }
+    assert!(numbers.iter().all(|&times| times > 0), "{numbers:?}");
+}
+
+/// "In a sound buffer it holds a dd, 0 to 36, 99 or 100, while a settling is under way, else 0": in every slot, filed or not,
+/// whatever the head's dd is, and by the station's own settled number.
+#[test]
+fn where_a_copy_of_dd_is_sound() {
+    let fresh = eventful();
+    for (settled, slot) in (0..=10).flat_map(|settled| (0..9).map(move |slot| (settled, slot))) {
+        for copy in 0..=255 {
+            let mut store = fresh.clone();
+            let edits = [
+                Record::Entry { index: 0 }.edit(2, layout::SETTLED, settled),
+                Record::Entry { index: 1 }.edit(2, layout::SETTLED, 2),
+                Record::Head { index: 0, slot }.edit(2, layout::DD_COPY, copy),
+            ];
+            edits.concat().into_iter().for_each(|(at, byte)| store[at] = byte);
+            let sound = match settled {
+                0 | 1 => copy == 0,
+                2..=9 => matches!(copy, 0..=36 | 99 | 100),
+                _ => false,
+            };
+            assert_eq!(store::sound(&store), sound, "{settled} {slot} {copy}");
+        }
+    }
+}
+
+/// By hand: T and D of three slots, and the flags of W, after the step that is due. The copies of dd are 0, 1, 36, 99 and
+/// 100, with W 10 and four times 0, filled with flag 1.
+fn stepped(settled: u16, cells: [[Cell; 3]; 2]) -> (Vec<Cell>, Vec<Cell>, [u8; 5]) {
+    let mut store = opened(&[1]);
+    store::set_settling(&mut store, 0, Settling::from_number(settled).unwrap());
+    let block = store::block_mut(&mut store, 0);
+    store::put_dd_copies(block, [0, 1, 36, 99, 100, 0, 0, 0, 0]);
+    let mut sheet = [[Cell::MISSING; 9]; 9];
+    for slot in 0..3 {
+        (sheet[slot][store::T], sheet[slot][store::D]) = (cells[0][slot], cells[1][slot]);
+    }
+    for (slot, value) in (0..5).zip([10, 0, 0, 0, 0]) {
+        sheet[slot][store::W] = Cell { state: 3, flag: 1, value };
+    }
+    store::put_checked(block, &sheet);
+    assert_eq!(step(&mut store, 1), 0);
+    let (number, _, [t, d, w]) = progress(&store);
+    assert_eq!(number, [3, 4, 5, 1, 7, 8, 9, 0][settled as usize - 2]);
+    (t[..3].to_vec(), d[..3].to_vec(), w.map(|cell| cell.flag))
+}
+
+/// A step works on the checked cells that are there: those of states 2 and 3 are present, one of state 4 is passed over, and
+/// internal reads the copy of dd.
+#[test]
+fn steps_over_any_cells() {
+    let cell = |state, flag, value| Cell { state, flag, value };
+    let t = [cell(2, 0, 100), cell(3, 2, 481), cell(2, 3, 381)];
+    let d = [cell(4, 0, 100), cell(3, 4, 301), cell(4, 2, 1)];
+    for settled in [2, 6] {
+        let (range_t, range_d, wind) = stepped(settled, [t, d]);
+        assert_eq!(range_t, [t[0], cell(0, 1, 0), cell(2, 4, 381)]);
+        assert_eq!((range_d, wind), (d.to_vec(), [1; 5]));
+    }
+    for settled in [3, 7] {
+        let humid = [cell(4, 0, 100), cell(2, 1, 482), cell(3, 0, 380)];
+        let (_, internal_d, wind) = stepped(settled, [t, humid]);
+        assert_eq!(internal_d, [humid[0], cell(0, 2, 0), humid[2]]);
+        assert_eq!(wind, [4, 4, 4, 1, 1]);
+    }
+    for settled in [4, 8] {
+        let turned = [cell(3, 0, 60), cell(2, 1, -70), cell(2, 4, 80)];
+        let (time_t, time_d, _) = stepped(settled, [turned, d]);
+        assert_eq!(time_t, [turned[0], cell(2, 3, 70), turned[2]]);
+        assert_eq!(time_d, d);
+    }
+    for settled in [5, 9] {
+        let hole = [cell(3, 0, 60), cell(0, 2, 0), cell(2, 4, 81)];
+        let (fill_t, fill_d, _) = stepped(settled, [hole, [cell(3, 0, 60), cell(0, 2, 0), cell(4, 0, 81)]]);
+        assert_eq!(fill_t[1], cell(3, 2, 71));
+        assert_eq!(fill_d[1], cell(0, 2, 0));
+    }
+}
+
+/// Two runs with the same calls for a station answer them alike and leave the same records, whatever is begun, stepped and
+/// filed for another meanwhile.
+#[test]
+fn runs_in_portions() {
+    let run = |stations: &[u32], others: usize| {
+        let mut store = opened(stations);
+        let mut answers = Vec::new();
+        let calls = "sbfssnsssdbssfbsssbssssd".chars().enumerate();
+        for (turn, call) in calls {
+            for other in 0..others {
+                match (turn + other) % 3 {
+                    0 => begin(&mut store, 2),
+                    1 => step(&mut store, 2),
+                    _ => file_at(&mut store, &AMENDED.replace("00001", "00002"), (turn % 25) as u32),
+                };
+            }
+            answers.push(match call {
+                'b' => begin(&mut store, 1),
+                's' => step(&mut store, 1),
+                'f' => file_at(&mut store, AMENDED, turn as u32),
+                'n' => file(&mut store, NIL),
+                _ => reference::day(&store, 1).map_or_else(|refusal| refusal.number(), |_| 0),
+            });
+        }
+        let n = stations.len();
+        let entry = store[entry_at(0)..entry_at(1)].to_vec();
+        (answers, entry, store[block_at(n, 0)..block_at(n, 1)].to_vec())
+    };
+    let alone = run(&[1], 0);
+    assert_eq!(alone.0[..10], [14, 0, 0, 0, 0, 0, 0, 0, 14, 11]);
+    assert_eq!(alone.0[10..], [0; 14]);
+    for others in 1..=5 {
+        assert_eq!(run(&[1, 2], others), alone, "{others}");
+    }
 }
 
 #[test]
@@ -769,15 +1097,16 @@ fn what_is_sound() {
     check(Record::Entry { index: 0 }, layout::NUMBER, &[1, 19], &[0, 20, 21, 65536 + 1]);
     check(Record::Entry { index: 1 }, layout::NUMBER, &[11, 65535, 65536, 99999], &[0, 9, 10, 100000, -1]);
     for index in [0, 1] {
-        check(Record::Entry { index }, layout::ROW, &[0, 1], &[2, 256, 65535]);
-        check(Record::Entry { index }, layout::SETTLED, &[0, 1], &[2, 256, 65535]);
+        let entry = Record::Entry { index };
+        check(entry, layout::ROW, &[0, 1], &[2, 256, 65535]);
+        check(entry, layout::SETTLED, &[0, 1, 2, 5, 6, 9], &[10, 255, 256, 257, 258, 65535]);
         for slot in [0, 8] {
             let head = Record::Head { index, slot };
             check(head, layout::FILED, &[0, 1], &[2, 255]);
             check(head, layout::IR, &[0, 4, 5], &[6, 255]);
             check(head, layout::TR, &[0, 1, 9], &[10, 255]);
             check(head, layout::DD, &[0, 1, 36, 99, 100], &[37, 98, 101, 255]);
-            check(head, layout::SPARE, &[0], &[1, 100, 255]);
+            check(head, layout::DD_COPY, &[0], &[1, 36, 99, 100, 255]);
             for (filed, ranks) in [(0, 0..=0), (1, 0..=24)] {
                 for rank in 0..=255 {
                     let numbers = [(layout::FILED, filed), (layout::RANK, rank)];

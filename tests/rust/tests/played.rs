@@ -3,18 +3,20 @@
 use reading::calls::{Calls, Reference};
 use reading::played::{crc32, play};
 
-/// Those of the state after S-5.
-const CALLS: &str = include_str!("../data/calls-05.txt");
+/// Those of the states after S-5 and after S-6; the first hold in both.
+const CALLS: [&str; 2] = [include_str!("../data/calls-05.txt"), include_str!("../data/calls-06.txt")];
 
 fn plays(calls: &dyn Calls) {
-    let (lines, differences) = play(calls, CALLS);
-    assert!(
-        differences.is_empty(),
-        "{} of {lines} lines differ\n{}",
-        differences.len(),
-        differences.join("\n")
-    );
-    assert!(lines > 0);
+    for written in CALLS {
+        let (lines, differences) = play(calls, written);
+        assert!(
+            differences.is_empty(),
+            "{} of {lines} lines differ\n{}",
+            differences.len(),
+            differences.join("\n")
+        );
+        assert!(lines > 0);
+    }
 }
 
 #[test]

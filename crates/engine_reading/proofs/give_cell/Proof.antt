@@ -10,8 +10,8 @@ use Rattle.quality.specs.Elements.{column}
 use Rattle.quality.specs.Cell.{Cell, slot}
 use Rattle.store_layout.specs.Model.{Block}
 use Prim.Native.Nat.{_+_}
-use Rattle.laws.proofs.Bools.{via, and-left, and-right, cond-true, cond-false}
-use borrow.Author.Tests.{not-true, not-false, leb-true}
+use Rattle.laws.proofs.Bools.{and-left, and-right, cond-true, cond-false}
+use borrow.Author.Tests.{not-true, not-false, leb-true, eq-eqb, ne-eqb}
 use native.Mathlib.Omega.{arith}
 use mir.Syntax.{w32}
 use mir.Val.{toZ, ofZ}
@@ -26,7 +26,7 @@ use Rattle.engine_reading.proofs.give_cell.Lts as lts
 use Rattle.laws.proofs.difference.Reads as difference-reads
 use Rattle.store_block.proofs.block.cell_of.Reads as cell-of-reads
 use Rattle.store_entries.proofs.block_start.Reads as block-start-reads
-use Rattle.store_entries.proofs.is_settled.Reads as is-settled-reads
+use Rattle.store_entries.proofs.settled_of.Reads as settled-of-reads
 
 returns : tie.Need-returns
 unfolding cellOf
@@ -34,14 +34,14 @@ returns c =
     let w : (leb (c .before .before .args .element) 8 && leb (c .before .before .args .slot) 8) ≡ false = not-true (leb (c .before .before .args .element) 8 && leb (c .before .before .args .slot) 8) (c .if1 .taken) in
     rw w
 
-is-settled-requires : tie.Need-is-settled-requires
-is-settled-requires c κs = (Stores.framed (c .before .before .args .store .now) (c .before .before .pre .0), c .before .before .pre .1)
+settled-of-requires : tie.Need-settled-of-requires
+settled-of-requires c κs = (Stores.framed (c .before .before .args .store .now) (c .before .before .pre .0), c .before .before .pre .1)
 
 returns-2 : tie.Need-returns-2
 unfolding cellOf
 returns-2 c =
     let w : (leb (c .before .before .before .before .args .element) 8 && leb (c .before .before .before .before .args .slot) 8) ≡ true = not-false (leb (c .before .before .before .before .args .element) 8 && leb (c .before .before .before .before .args .slot) 8) (c .before .before .if1 .left) in
-    let t : (eqb (stationAt (decode (c .before .before .before .before .args .store .now) .stations) (c .before .before .before .before .args .index) .settled) 1) ≡ false = via (c .before .is-settled .ensures) (not-true (c .before .is-settled .result) (c .if2 .taken)) in
+    let t : (eqb (stationAt (decode (c .before .before .before .before .args .store .now) .stations) (c .before .before .before .before .args .index) .settled) 1) ≡ false = ne-eqb _ 1 (λ q. c .if2 .taken (c .before .settled-of .ensures ∙ q)) in
     rw (w, t)
 
 block-start-requires : tie.Need-block-start-requires
@@ -93,7 +93,7 @@ returns-3 c =
     let e = o .args .element in
     let k = o .args .slot in
     let w : (leb (c .before .before .before .before .before .before .before .before .before .args .element) 8 && leb (c .before .before .before .before .before .before .before .before .before .args .slot) 8) ≡ true = not-false (leb (c .before .before .before .before .before .before .before .before .before .args .element) 8 && leb (c .before .before .before .before .before .before .before .before .before .args .slot) 8) (c .before .before .before .before .before .before .before .if1 .left) in
-    let t : (eqb (stationAt (decode (c .before .before .before .before .before .before .before .before .before .args .store .now) .stations) (c .before .before .before .before .before .before .before .before .before .args .index) .settled) 1) ≡ true = via (c .before .before .before .before .before .before .is-settled .ensures) (not-false (c .before .before .before .before .before .before .is-settled .result) (c .before .before .before .before .before .if2 .left)) in
+    let t : (eqb (stationAt (decode (c .before .before .before .before .before .before .before .before .before .args .store .now) .stations) (c .before .before .before .before .before .before .before .before .before .args .index) .settled) 1) ≡ true = eq-eqb _ 1 (sym (c .before .before .before .before .before .before .settled-of .ensures) ∙ c .before .before .before .before .before .if2 .left) in
     let q : record { state = c .before .before .cell-of .result .state; flag = c .before .before .cell-of .result .flag; value = toZ w32 (ofZ w32 (c .difference .result)) } ≡ slot (column (stationAt (decode s .stations) i .block .checked) e) k =
     (λ j. record { state = c .before .before .cell-of .result .state; flag = c .before .before .cell-of .result .flag; value = (toZ-ofZ {w = w32} (search needs) ∙ c .difference .ensures) j })
     ∙ c .before .before .cell-of .ensures ∙ ap (λ (x : Block). slot (column (x .checked) e) k) (Stores.part-block s g i l a _ p refl) in
@@ -104,7 +104,7 @@ give-cell-spec =
     tie.close
     (tie.spec
     returns
-    is-settled-requires
+    settled-of-requires
     returns-2
     block-start-requires
     add-b

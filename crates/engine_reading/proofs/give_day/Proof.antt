@@ -10,8 +10,8 @@ use Rattle.daily.specs.Coded.{Says}
 use Rattle.store_layout.specs.Model.{Block}
 use Rattle.quality.specs.Valid.{ValidSheet}
 use Prim.Native.Nat.{_+_}
-use Rattle.laws.proofs.Bools.{via, and-left, and-right, cond-true, cond-false}
-use borrow.Author.Tests.{not-true, not-false, leb-true}
+use Rattle.laws.proofs.Bools.{cond-true, cond-false}
+use borrow.Author.Tests.{eq-eqb, ne-eqb}
 use native.Mathlib.Omega.{arith}
 use mathlib.Core.Path.{_≡_, refl, sym, _∙_, ap, ap₂, subst}
 use Rattle.engine_answers.proofs.Stores as Stores
@@ -24,14 +24,14 @@ use Rattle.daily_line.proofs.day_line.Reads as day-line-reads
 use Rattle.store_block.proofs.block.heads_of.Reads as heads-of-reads
 use Rattle.store_block.proofs.block.sheet_of.Reads as sheet-of-reads
 use Rattle.store_entries.proofs.block_start.Reads as block-start-reads
-use Rattle.store_entries.proofs.is_settled.Reads as is-settled-reads
+use Rattle.store_entries.proofs.settled_of.Reads as settled-of-reads
 
-is-settled-requires : tie.Need-is-settled-requires
-is-settled-requires c κs = (Stores.framed (c .before .args .store .now) (c .before .pre .0), c .before .pre .1)
+settled-of-requires : tie.Need-settled-of-requires
+settled-of-requires c κs = (Stores.framed (c .before .args .store .now) (c .before .pre .0), c .before .pre .1)
 
 returns : tie.Need-returns
 unfolding dayOf
-returns c = subst (SaysDay (reply.Refused 11)) (sym (cond-false _ _ _ (via (c .before .is-settled .ensures) (not-true _ (c .if1 .taken))))) refl
+returns c = subst (SaysDay (reply.Refused 11)) (sym (cond-false _ _ _ (ne-eqb _ 1 (λ q. c .if1 .taken (c .before .settled-of .ensures ∙ q))))) refl
 
 block-start-requires : tie.Need-block-start-requires
 block-start-requires c κs = (Stores.framed (c .before .before .before .args .store .now) (c .before .before .before .pre .0), c .before .before .before .pre .1)
@@ -74,7 +74,7 @@ returns-2 c =
     let a = c .before .before .before .before .before .block-start .result in
     let p = c .before .before .before .before .before .block-start .ensures .0 in
     let e = Stores.part-block s g i l a _ p refl in
-    subst (SaysDay (reply.Line (c .day-line .result))) (sym (cond-true _ _ _ (via (c .before .before .before .before .before .before .before .is-settled .ensures) (not-false _ (c .before .before .before .before .before .before .if1 .left)))))
+    subst (SaysDay (reply.Line (c .day-line .result))) (sym (cond-true _ _ _ (eq-eqb _ 1 (sym (c .before .before .before .before .before .before .before .settled-of .ensures) ∙ c .before .before .before .before .before .before .if1 .left))))
     (subst (Says (c .day-line .result))
     (ap₂ dayLine (c .before .heads-of .ensures ∙ ap (λ (x : Block). x .heads) e) (c .before .before .before .sheet-of .ensures ∙ ap (λ (x : Block). x .checked) e)) (c .day-line .ensures))
 
@@ -93,7 +93,7 @@ pub give-day-spec : {M : Type 1} → statement M
 give-day-spec =
     tie.close
     (tie.spec
-    is-settled-requires
+    settled-of-requires
     returns
     block-start-requires
     add-b

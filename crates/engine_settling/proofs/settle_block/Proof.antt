@@ -2,11 +2,10 @@
 -- Assumes nothing.
 use Rattle.quality.specs.Valid.{ValidSheet}
 use Rattle.quality.specs.Settled.{settled}
-use Rattle.quality.specs.Cell.{Cell}
-use Rattle.store_layout.specs.Updates.{withChecked}
+use Rattle.store_layout.specs.Updates.{withCopies}
 use Rattle.store_layout.specs.Layout.{decodeBlock}
-use mathlib.Core.List.{List}
-use mathlib.Core.Path.{_∙_, sym, ap, ap₂, subst}
+use mathlib.Core.Path.{_∙_, sym, ap, subst}
+use Rattle.engine_settling.proofs.Blocks.{made-as}
 use borrow.Author.Needs.{needs}
 use Rattle.engine_settling.proofs.settle_block.Statement.{statement}
 use Rattle.engine_settling.proofs.settle_block.Tie as tie
@@ -14,6 +13,7 @@ use Rattle.engine_settling.proofs.settle_block.Reads as reads
 use Rattle.engine_settling.proofs.settle_block.Lts as lts
 use Rattle.quality_steps.proofs.settle.Reads as settle-reads
 use Rattle.store_block.proofs.block.directions.Reads as directions-reads
+use Rattle.store_block.proofs.block.put_copies.Reads as put-copies-reads
 use Rattle.store_block.proofs.block.put_sheet.Reads as put-sheet-reads
 use Rattle.store_block.proofs.block.sheet_of.Reads as sheet-of-reads
 
@@ -29,15 +29,20 @@ settle-requires c κs = (c .before .before .before .before .before .pre .1, subs
 put-sheet-requires : tie.Need-put-sheet-requires
 put-sheet-requires c κs = search needs
 
+put-copies-requires : tie.Need-put-copies-requires
+put-copies-requires c κs = search needs
+
 same-length : tie.Need-same-length
 same-length c = search needs
 
 returns : tie.Need-returns
 returns c =
-    let o = c .before .before .before .before .before .before .before .before .before .before in
-    c .before .before .put-sheet .ensures
-    ∙ ap (λ (x : List (List Cell)). withChecked x (decodeBlock (o .args .block .now)))
-    (c .before .before .before .before .settle .ensures ∙ ap₂ (settled (o .args .row) (o .args .warm)) (c .before .before .before .before .before .directions .ensures) (c .before .before .before .before .before .before .before .sheet-of .ensures))
+    let o = c .before .before .before .before .before .before .before .before .before .before .before .before .before .before in
+    c .before .before .put-copies .ensures
+    ∙ ap (withCopies (λ h. 0))
+    (made-as (settled (o .args .row) (o .args .warm)) (decodeBlock (o .args .block .now)) _ (c .before .before .before .before .before .before .put-sheet .ensures)
+    (c .before .before .before .before .before .before .before .before .settle .ensures) (c .before .before .before .before .before .before .before .before .before .directions .ensures)
+    (c .before .before .before .before .before .before .before .before .before .before .before .sheet-of .ensures))
 
 pub settle-block-spec : {M : Type 1} → statement M
 settle-block-spec =
@@ -47,5 +52,6 @@ settle-block-spec =
     directions-requires
     settle-requires
     put-sheet-requires
+    put-copies-requires
     same-length
     returns)

@@ -9,10 +9,10 @@ use Rattle.store_blocks.proofs.are_heads.Statement.{statement}
 use Rattle.store_blocks.proofs.are_heads.Tie as tie
 
 abbrev Inv-loop : tie.InvT-loop
-Inv-loop store at k₀ k = Passed (λ i. soundHead store (at + headAt i)) 9 k
+Inv-loop store at settled k₀ k = Passed (λ i. soundHead settled store (at + headAt i)) 9 k
 
 abbrev μ-loop : tie.MeasureT-loop
-μ-loop store at k₀ k = 9 - k
+μ-loop store at settled k₀ k = 9 - k
 
 pub are-heads-spec : {M : Type 1} → statement M
 are-heads-spec =

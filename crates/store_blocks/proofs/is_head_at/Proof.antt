@@ -8,4 +8,4 @@ use Rattle.store_blocks.proofs.is_head_at.Tie as tie
 
 pub is-head-at-spec : {M : Type 1} → statement M
 is-head-at-spec =
-    tie.close (tie.spec (λ c κs. search needs) (λ c κs. search needs) (λ c. c .is-head .ensures ∙ ap isHead (c .before .head-at .ensures)))
+    tie.close (tie.spec (λ c κs. search needs) (λ c κs. search needs) (λ c. c .is-head .ensures ∙ ap (isHead _) (c .before .head-at .ensures)))

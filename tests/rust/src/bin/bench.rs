@@ -168,6 +168,39 @@ fn small_stores(name: &'static str, count: u32) -> Work {
     }
 }
 
+type OfStation = fn(&dyn Calls, &mut [u8], u32) -> u32;
+
+/// A call that names a station and has no other argument, for all stations, in stores of so many: the sum of the answers.
+fn each_station(calls: &dyn Calls, stores: &mut [u8], count: u32, call: OfStation) -> u64 {
+    let stores = stores.chunks_mut(store_length(count as usize));
+    let stations = stores.enumerate().flat_map(|(place, store)| {
+        let first = place as u32 * count;
+        (first..first + count).map(|i| u64::from(call(calls, store, station(i)))).collect::<Vec<_>>()
+    });
+    stations.sum()
+}
+
+/// Settling at once, and in portions, each of these for all stations after the one before, in stores of so many.
+fn settling(names: [&'static str; 6], count: u32) -> impl Iterator<Item = Work> {
+    let step: OfStation = |calls, store, station| calls.step(store, station);
+    let calls: [OfStation; 6] = [
+        |calls, store, station| calls.settle(store, station),
+        |calls, store, station| calls.begin(store, station),
+        step,
+        step,
+        step,
+        step,
+    ];
+    let mut store: Vec<u8> =
+        (0..STATIONS).step_by(count as usize).flat_map(|first| settled_store(first, count)).collect();
+    names.into_iter().zip(calls).map(move |(name, call)| {
+        let before = store.clone();
+        assert_eq!(each_station(&Reference, &mut store, count, call), 0);
+        let run = move |calls: &dyn Calls, stores: &mut [u8]| each_station(calls, stores, count, call);
+        Work { name, unit: "station", units: STATIONS, store: before, run: Box::new(run) }
+    })
+}
+
 fn works() -> Vec<Work> {
     let reports: Vec<Vec<u8>> = (0..9).flat_map(|slot| (0..STATIONS).map(move |i| report(i, slot))).collect();
     let bulletins: Vec<Vec<u8>> = (0..9)
@@ -180,15 +213,12 @@ fn works() -> Vec<Work> {
     let [year, month, day] = DATE;
     let mut opened = vec![0; store_length(STATIONS as usize)];
     assert_eq!(Reference.open(&mut opened, year, month, day, &stations, &[0; STATIONS as usize]), 0);
-    let mut filed = opened.clone();
-    assert!(reports.iter().all(|text| Reference.file(&mut filed, text, ORDINARY) == 0));
     let settled = settled_store(0, STATIONS);
     let bytes: usize = reports.iter().map(Vec::len).sum();
     println!("{} reports of {} bytes on average", reports.len(), bytes / reports.len());
 
-    let all = stations.clone();
     let lines = stations;
-    vec![
+    let mut works = vec![
         Work {
             name: "288 reports at 32 stations, one by one",
             unit: "report",
@@ -211,15 +241,6 @@ fn works() -> Vec<Work> {
                     sum += u64::from(counts[0]) + 1000 * u64::from(counts[1]);
                 }
                 sum
-            }),
-        },
-        Work {
-            name: "settling 32 stations",
-            unit: "station",
-            units: 32,
-            store: filed,
-            run: Box::new(move |calls, store| {
-                all.iter().map(|&station| u64::from(calls.settle(store, station))).sum()
             }),
         },
         Work {
@@ -254,5 +275,28 @@ fn works() -> Vec<Work> {
                 u64::from(number) + entries.iter().map(|&entry| u64::from(entry)).sum::<u64>()
             }),
         },
-    ]
+    ];
+    works.extend(settling(
+        [
+            "settling 32 stations",
+            "beginning 32 stations",
+            "range alone, of 32 stations",
+            "internal alone, of 32 stations",
+            "time alone, of 32 stations",
+            "fill alone, of 32 stations",
+        ],
+        STATIONS,
+    ));
+    works.extend(settling(
+        [
+            "settling, in stores of one station",
+            "beginning, in stores of one station",
+            "range alone, in stores of one station",
+            "internal alone, in stores of one station",
+            "time alone, in stores of one station",
+            "fill alone, in stores of one station",
+        ],
+        1,
+    ));
+    works
 }

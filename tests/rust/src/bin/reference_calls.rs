@@ -1,5 +1,6 @@
-//! The transcript that the program `test_engine` must print, made by the reference: the lines of standard input, one call each on one
-//! buffer, with each call's answer and with what it did to the buffer. `crates/test_engine/src/main.rt` says what the lines are.
+//! The transcript that the program `test_engine`, or `test_stores`, must print, made by the reference: the lines of standard input, one
+//! call each on one buffer, with each call's answer and with what it did to the buffer. `crates/test_calls/src/lib.rt` says what the
+//! lines are.
 
 use reading::reference::layout::{stations_for, store_length, Field, Record, NUMBER};
 use reading::reference::{self, DayLine, Mean, Refusal};
@@ -49,6 +50,8 @@ fn call(store: &mut [u8], word: &str, arguments: &str) -> String {
             accepted(reference::file(store, text.as_bytes(), numbers(rank)[0]))
         }
         "settle" => accepted(reference::settle(store, numbers(arguments)[0])),
+        "begin" => accepted(reference::begin(store, numbers(arguments)[0])),
+        "step" => accepted(reference::step(store, numbers(arguments)[0])),
         "cell" => {
             let n = numbers(arguments);
             cell(store, n[0], n[1], n[2])

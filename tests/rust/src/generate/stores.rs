@@ -7,10 +7,11 @@ use crate::reference::calendar::Date;
 pub use crate::reference::layout::Edits;
 use crate::reference::layout::{block_at, entry_at, store_length, Record};
 use crate::reference::layout::{
-    BLOCK, ENTRY, FILED, FLAG, HEADER, HEADER_FIELDS, N, NUMBER, RANK, RAW, SPARE, STATE, STATION, VALUE,
+    BLOCK, DD_COPY, ENTRY, FILED, FLAG, HEADER, HEADER_FIELDS, N, NUMBER, RANK, RAW, SETTLED, STATE, STATION,
+    VALUE,
 };
 use crate::reference::store::{
-    self, can_open, Cell, Head, Sheet, D, DRY, HIGHEST_RANK, HUMIDITY, R, READ, T,
+    self, can_open, Cell, Head, Settling, Sheet, D, DRY, HIGHEST_RANK, HUMIDITY, R, READ, T,
 };
 
 /// The arguments of an open call but its buffer.
@@ -155,12 +156,15 @@ fn opened(opening: &Opening) -> Vec<u8> {
 pub fn hand_made(rng: &mut Rng, opening: &Opening) -> Vec<u8> {
     let mut store = opened(opening);
     for index in 0..opening.stations.len() {
-        store::set_settled(&mut store, index, rng.chance(80).into());
+        store::set_settling(&mut store, index, any_settling(rng));
     }
     for index in 0..opening.stations.len() {
+        let under_way = matches!(store::settling(&store, index), Settling::UnderWay { .. });
         let block = store::block_mut(&mut store, index);
         for slot in 0..9 {
-            store::put_head(block, slot, any_head(rng));
+            let head = any_head(rng);
+            let dd_copy = if under_way { any_copy(rng, head.dd) } else { 0 };
+            store::put_head(block, slot, Head { dd_copy, ..head });
         }
         // So many in a hundred are missing or mended, in all of the block.
         let missing = rng.pick(&[0, 0, 1, 5, 30]);
@@ -191,7 +195,19 @@ fn any_head(rng: &mut Rng) -> Head {
     let filed = rng.below(2) as u8;
     let any_rank = rng.below(HIGHEST_RANK as usize + 1) as u8;
     let rank = filed * rng.pick(&[0, 0, 1, 2, HIGHEST_RANK as u8, any_rank, any_rank]);
-    Head { filed, ir: rng.below(6) as u8, tr, dd, rank, spare: 0 }
+    Head { filed, ir: rng.below(6) as u8, tr, dd, rank, dd_copy: 0 }
+}
+
+/// Mostly settled, since a day line asks for that; of the others most are under way.
+fn any_settling(rng: &mut Rng) -> Settling {
+    let number = if rng.chance(65) { 1 } else { rng.below(10) as u16 };
+    Settling::from_number(number).expect("a settled number")
+}
+
+/// A copy of dd while a settling is under way, which need not be the head's.
+fn any_copy(rng: &mut Rng, dd: u8) -> u8 {
+    let any = rng.below(37) as u8;
+    rng.pick(&[dd, dd, 0, any, any, 36, 99, 100])
 }
 
 /// 81 cells; flags and states above 1 only where cells may be mended.
@@ -307,7 +323,7 @@ pub fn any_edits(rng: &mut Rng, n: usize) -> Edits {
     }
     let entry = Record::Entry { index: rng.below(n) };
     let cell = any_cell(rng, n);
-    match rng.below(9) {
+    match rng.below(12) {
         0 => entry.edit(n, NUMBER, rng.pick(&[0, 1, 99999, 100000, 1 << 16, 1 << 17, u32::MAX])),
         1 => {
             let number = rng.pick(&[0, 1, 2, 12, 13, 28, 29, 30, 31, 32, 33, 1999, 2000, 2099, 2100]);
@@ -315,6 +331,7 @@ pub fn any_edits(rng: &mut Rng, n: usize) -> Edits {
         }
         2 | 3 => humidity_edits(rng, n),
         4 | 5 => rank_edits(rng, n),
+        6..=8 => settling_edits(rng, n),
         _ => {
             let value: i32 = rng.pick(&[-32768, -32768, -32767, 0, 1]);
             let mut edits = cell.edit(n, VALUE, value as u32);
@@ -345,12 +362,25 @@ fn humidity_edits(rng: &mut Rng, n: usize) -> Edits {
     edits
 }
 
-/// A rank in a filed or unfiled slot, at times one that it may not have, or a spare byte.
+/// A settled number, at times one that no entry has, a slot's copy of dd, or both.
+fn settling_edits(rng: &mut Rng, n: usize) -> Edits {
+    let (index, slot) = (rng.below(n), rng.below(9));
+    let number = rng.below(10) as u32;
+    let number = rng.pick(&[number, number, number, 10, 11, 255, 256, 258, 65535]);
+    let mut edits = match rng.below(3) {
+        0 => Edits::new(),
+        _ => Record::Entry { index }.edit(n, SETTLED, number),
+    };
+    if edits.is_empty() || rng.chance(50) {
+        let copy = rng.pick(&[0, 1, 36, 37, 98, 99, 100, 101, 255]);
+        edits.extend(Record::Head { index, slot }.edit(n, DD_COPY, copy));
+    }
+    edits
+}
+
+/// A rank in a filed or unfiled slot, at times one that it may not have.
 fn rank_edits(rng: &mut Rng, n: usize) -> Edits {
     let head = Record::Head { index: rng.below(n), slot: rng.below(9) };
-    if rng.chance(20) {
-        return head.edit(n, SPARE, rng.pick(&[0, 1, 36, 100, 255]));
-    }
     let any_rank = rng.below(HIGHEST_RANK as usize + 1) as u32;
     let rank = rng.pick(&[0, 1, any_rank, any_rank, HIGHEST_RANK, HIGHEST_RANK + 1, HIGHEST_RANK + 1, 255]);
     let mut edits = head.edit(n, RANK, rank);

@@ -3,7 +3,7 @@
 use super::{fault, set};
 use crate::calls::{Calls, Reference};
 use crate::place::{place, reports, Place};
-use crate::reference::layout::{stations_for, Record, FILED, RANK, SETTLED, SPARE};
+use crate::reference::layout::{stations_for, Record, FILED, RANK, SETTLED};
 use crate::reference::store::{self, Cell, Head, HIGHEST_RANK, ORDINARY};
 use std::iter::repeat;
 
@@ -74,7 +74,8 @@ fn met(store: &mut [u8], text: &[u8], rank: u32, place: &Place, number: u32) -> 
         _ => {}
     }
     if (fault(34) && number == 8) || (fault(35) && number == 13) {
-        store::put_head(store::block_mut(store, index), slot, Head::UNFILED);
+        let free = Head { dd_copy: place.head.dd_copy, ..Head::UNFILED };
+        store::put_head(store::block_mut(store, index), slot, free);
         return Reference.file(store, text, rank);
     }
     number
@@ -104,7 +105,7 @@ fn left(store: &mut [u8], place: &Place) {
         return;
     }
     if fault(45) {
-        set(store, Record::Entry { index }, SETTLED, place.settled.into());
+        set(store, Record::Entry { index }, SETTLED, place.settling.number().into());
     }
     let block = store::block_mut(store, index);
     let (mut head, mut cells) = (store::head(block, slot), store::raw_sheet(block)[slot]);
@@ -150,7 +151,7 @@ fn file_each(store: &mut [u8], text: &[u8], first: u32) -> u32 {
     ranked.filter(|(report, rank)| Reference.file(store, report, *rank) == 0).count() as u32
 }
 
-/// The store with heads mended that are unsound for their rank or their spare byte.
+/// The store with heads mended that are unsound for their rank.
 pub fn heads_taken_for_sound(store: &[u8]) -> Vec<u8> {
     let mut store = store.to_vec();
     let Some(n) = stations_for(store.len()) else { return store };
@@ -161,9 +162,6 @@ pub fn heads_taken_for_sound(store: &[u8]) -> Vec<u8> {
         }
         if fault(52) && store[at + FILED.at] == 0 {
             store[at + RANK.at] = 0;
-        }
-        if fault(53) {
-            store[at + SPARE.at] = 0;
         }
     }
     store

@@ -33,7 +33,7 @@ impl Reached {
             }
             return;
         }
-        let Some(Place { head, settled, nil, .. }) = place else { return };
+        let Some(Place { head, settling, nil, .. }) = place else { return };
         let of_slot = u32::from(head.rank);
         match (head.filed, nil, number) {
             (1, true, _) => self.add("file: NIL where filed, its rank", against(rank, of_slot)),
@@ -43,7 +43,7 @@ impl Reached {
             (1, false, 0) => {
                 self.add("file: rank that replaced a lower one", rank);
                 self.add("file: letters skipped where replaced", rank - of_slot - 1);
-                self.add("file: replaced where settled was", settled.into());
+                self.add("file: replaced where settled was", settling.number().into());
             }
             _ => {}
         }
@@ -66,7 +66,10 @@ impl Reached {
             if number == 0 {
                 self.rain_filed(BY_BULLETIN, &report, &store);
             }
-            let Some(Place { head, nil, .. }) = place else { continue };
+            let Some(Place { head, settling, nil, .. }) = place else { continue };
+            if number == 0 && !nil {
+                self.add("bulletin: settled number, accepted", settling.number().into());
+            }
             let kind = match (head.filed, nil, number) {
                 (0, false, 0) => 0,
                 (1, false, 0) => 1,

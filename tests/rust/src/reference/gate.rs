@@ -29,6 +29,8 @@ pub enum Refusal {
     NoSuchCell = 12,
     /// 13: a rank above 24 or below the slot's (document 02, S-3).
     Rank = 13,
+    /// 14: a step with no settling under way (document 02, S-6).
+    NotBegun = 14,
 }
 
 impl Refusal {

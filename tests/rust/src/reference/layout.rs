@@ -79,17 +79,18 @@ pub const HEADER_FIELDS: &[Field] = &[N, LIST_OFFSET, BLOCK_OFFSET, BLOCK_LENGTH
 
 pub const NUMBER: Field = field("number", 0, 4, &[1, 99999]);
 pub const ROW: Field = field("row", 4, 2, &[1]);
-pub const SETTLED: Field = field("settled", 6, 2, &[1]);
+pub const SETTLED: Field = field("settled", 6, 2, &[1, 2, 9]);
 pub const ENTRY_FIELDS: &[Field] = &[NUMBER, ROW, SETTLED];
 
 pub const FILED: Field = field("filed", 0, 1, &[1]);
 pub const IR: Field = field("iR", 1, 1, &[5]);
 pub const TR: Field = field("tR", 2, 1, &[9]);
 pub const DD: Field = field("dd", 3, 1, &[36, 99, 100]);
-/// With S-3 of document 02, and after it a byte that is 0.
+/// With S-3 of document 02.
 pub const RANK: Field = field("rank", 4, 1, &[HIGHEST_RANK]);
-pub const SPARE: Field = field("spare", 5, 1, &[]);
-pub const HEAD_FIELDS: &[Field] = &[FILED, IR, TR, DD, RANK, SPARE];
+/// With S-6: the dd at begin while a settling is under way, else 0.
+pub const DD_COPY: Field = field("copy", 5, 1, &[36, 99, 100]);
+pub const HEAD_FIELDS: &[Field] = &[FILED, IR, TR, DD, RANK, DD_COPY];
 
 pub const STATE: Field = field("state", 0, 1, &[1, 3, 4]);
 pub const FLAG: Field = field("flag", 1, 1, &[4]);

@@ -64,10 +64,12 @@ pub fn file(store: &mut [u8], text: &[u8], rank: u8) -> Result<(), Refusal> {
     let (index, slot) = report.place(store)?;
     let Some(observation) = report.observation else { return Ok(()) };
     let block = store::block_mut(store, index);
-    check_rank(store::head(block, slot), rank)?;
+    let before = store::head(block, slot);
+    check_rank(before, rank)?;
     let (head, cells): (Head, [Cell; 9]) = values::slot(slot, report.iw, &observation, rank);
-    store::put_slot(block, slot, head, &cells);
-    store::set_settled(store, index, 0);
+    // "They go to head and raw cells and do not touch the settling" (document 02, S-6).
+    store::put_slot(block, slot, Head { dd_copy: before.dd_copy, ..head }, &cells);
+    store::set_settling(store, index, store::settling(store, index).reported());
     Ok(())
 }
 

@@ -1,7 +1,8 @@
-//! "Settling a station": four steps, each from a copy of what the step before left. All of them pass over a humidity,
-//! which `Cell::get` does not give (document 02, S-2).
+//! "Settling a station": four steps, each from a copy of what the step before left, in one call or in portions (document
+//! 02, S-6). All of them pass over a humidity, which `Cell::get` does not give (S-2).
 
-use super::store::{self, Cell, Sheet, C, CORRECTED, D, FILLED, M, P, R, T, V, W, X};
+use super::gate::Refusal;
+use super::store::{self, Cell, Settling, Sheet, Step, C, CORRECTED, D, FILLED, M, P, R, T, V, W, X};
 
 /// Flags of a cell.
 const RANGE: u8 = 1;
@@ -9,16 +10,53 @@ const INTERNAL: u8 = 2;
 const TIME: u8 = 3;
 const SUSPECT: u8 = 4;
 
-/// Settles a station of a sound store.
+/// Settles a station of a sound store: "equals begin and four steps, and drops a settling under way" (S-6).
 pub fn settle(store: &mut [u8], index: usize) {
-    let limits = limits(store::row(store, index), store::date(store).warm());
+    let limits = limits_of(store, index);
     let block = store::block_mut(store, index);
     let sheet = range(&store::raw_sheet(block), &limits);
     let sheet = internal(&sheet, |slot| store::head(block, slot).dd);
     let sheet = time(&sheet);
     let sheet = fill(&sheet);
     store::put_checked(block, &sheet);
-    store::set_settled(store, index, 1);
+    store::put_dd_copies(block, [0; 9]);
+    store::set_settling(store, index, Settling::Settled);
+}
+
+/// Begins a settling, whether or not one is under way: the raw cells and each slot's dd are copied.
+pub fn begin(store: &mut [u8], index: usize) {
+    let block = store::block_mut(store, index);
+    store::put_checked(block, &store::raw_sheet(block));
+    store::put_dd_copies(block, std::array::from_fn(|slot| store::head(block, slot).dd));
+    store::set_settling(store, index, Settling::UnderWay { due: Step::Range, reported: false });
+}
+
+/// Makes the step that is due on the checked cells. After fill, "S is settled exactly if no report for S but NIL was
+/// accepted since" begin.
+pub fn step(store: &mut [u8], index: usize) -> Result<(), Refusal> {
+    let Settling::UnderWay { due, reported } = store::settling(store, index) else {
+        return Err(Refusal::NotBegun);
+    };
+    let limits = limits_of(store, index);
+    let block = store::block_mut(store, index);
+    let before = store::checked_sheet(block);
+    let (after, next) = match due {
+        Step::Range => (range(&before, &limits), Some(Step::Internal)),
+        Step::Internal => (internal(&before, |slot| store::head(block, slot).dd_copy), Some(Step::Time)),
+        Step::Time => (time(&before), Some(Step::Fill)),
+        Step::Fill => (fill(&before), None),
+    };
+    store::put_checked(block, &after);
+    if next.is_none() {
+        store::put_dd_copies(block, [0; 9]);
+    }
+    let settling = match next {
+        Some(due) => Settling::UnderWay { due, reported },
+        None if reported => Settling::Unsettled,
+        None => Settling::Settled,
+    };
+    store::set_settling(store, index, settling);
+    Ok(())
 }
 
 fn discarded(flag: u8) -> Cell {
@@ -33,6 +71,11 @@ type Limits = [i16; 4];
 /// T, X, M by climate row and season (cold, warm).
 const TEMPERATURE: [[Limits; 2]; 2] =
     [[[-400, -250, 250, 350], [-150, -50, 380, 480]], [[-480, -320, 200, 300], [-220, -120, 320, 420]]];
+
+/// The limits at a station, in the season of D.
+fn limits_of(store: &[u8], index: usize) -> [Option<Limits>; 9] {
+    limits(store::row(store, index), store::date(store).warm())
+}
 
 /// The limits of each element; none for C and V.
 fn limits(row: usize, warm: bool) -> [Option<Limits>; 9] {

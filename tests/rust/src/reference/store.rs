@@ -4,7 +4,7 @@ use super::calendar::Date;
 use super::gate::Refusal;
 use super::layout::{
     block_at, checked_at, entry_at, head_at, raw_at, store_length, BLOCK, BLOCK_LENGTH, BLOCK_OFFSET, CELL,
-    CHECKED, DAY, ENTRY, HEAD, HEADER, LIST_OFFSET, MONTH, N, NUMBER, RAW, ROW, SETTLED, YEAR, ZERO,
+    CHECKED, DAY, DD_COPY, ENTRY, HEAD, HEADER, LIST_OFFSET, MONTH, N, NUMBER, RAW, ROW, SETTLED, YEAR, ZERO,
 };
 
 /// Elements, in the order of a slot's cells.
@@ -91,19 +91,72 @@ pub struct Head {
     pub dd: u8,
     /// The filed report's (document 02, S-3).
     pub rank: u8,
-    /// The zero byte.
-    pub spare: u8,
+    /// The dd that a settling under way reads, else 0 (document 02, S-6).
+    pub dd_copy: u8,
 }
 
 impl Head {
-    pub const UNFILED: Head = Head { filed: 0, ir: 5, tr: 0, dd: 100, rank: 0, spare: 0 };
+    pub const UNFILED: Head = Head { filed: 0, ir: 5, tr: 0, dd: 100, rank: 0, dd_copy: 0 };
 
-    fn from_bytes([filed, ir, tr, dd, rank, spare]: [u8; HEAD]) -> Head {
-        Head { filed, ir, tr, dd, rank, spare }
+    fn from_bytes([filed, ir, tr, dd, rank, dd_copy]: [u8; HEAD]) -> Head {
+        Head { filed, ir, tr, dd, rank, dd_copy }
     }
 
     fn to_bytes(self) -> [u8; HEAD] {
-        [self.filed, self.ir, self.tr, self.dd, self.rank, self.spare]
+        [self.filed, self.ir, self.tr, self.dd, self.rank, self.dd_copy]
+    }
+}
+
+/// One of the four steps of settling.
+#[derive(Clone, Copy, Debug, PartialEq, Eq)]
+pub enum Step {
+    Range,
+    Internal,
+    Time,
+    Fill,
+}
+
+const STEPS: [Step; 4] = [Step::Range, Step::Internal, Step::Time, Step::Fill];
+
+/// What a station's settled number says (document 02, S-6).
+#[derive(Clone, Copy, Debug, PartialEq, Eq)]
+pub enum Settling {
+    Unsettled,
+    Settled,
+    /// Begun: the step that is due, and whether a report for the station but NIL was accepted since.
+    UnderWay {
+        due: Step,
+        reported: bool,
+    },
+}
+
+impl Settling {
+    /// "2 to 5 while range, internal, time or fill is due, 6 to 9 if such a report came since."
+    pub fn from_number(number: u16) -> Option<Settling> {
+        let under_way = |due: u16, reported| Settling::UnderWay { due: STEPS[due as usize], reported };
+        Some(match number {
+            0 => Settling::Unsettled,
+            1 => Settling::Settled,
+            2..=5 => under_way(number - 2, false),
+            6..=9 => under_way(number - 6, true),
+            _ => return None,
+        })
+    }
+
+    pub fn number(self) -> u16 {
+        match self {
+            Settling::Unsettled => 0,
+            Settling::Settled => 1,
+            Settling::UnderWay { due, reported } => due as u16 + if reported { 6 } else { 2 },
+        }
+    }
+
+    /// After a report but NIL: a settling under way goes on, and the station will not be settled when it ends.
+    pub fn reported(self) -> Settling {
+        match self {
+            Settling::UnderWay { due, .. } => Settling::UnderWay { due, reported: true },
+            Settling::Unsettled | Settling::Settled => Settling::Unsettled,
+        }
     }
 }
 
@@ -148,7 +201,8 @@ pub fn sound(store: &[u8]) -> bool {
         return false;
     }
     let (entries, blocks) = store[HEADER..].split_at(ENTRY * n);
-    sound_header(store, n) && sound_entries(entries) && blocks.chunks_exact(BLOCK).all(sound_block)
+    let mut parts = entries.chunks_exact(ENTRY).zip(blocks.chunks_exact(BLOCK));
+    sound_header(store, n) && sound_entries(entries) && parts.all(|(entry, block)| sound_block(entry, block))
 }
 
 fn sound_header(store: &[u8], n: usize) -> bool {
@@ -166,12 +220,16 @@ fn sound_entries(entries: &[u8]) -> bool {
         let number = u32_at(entry, NUMBER.at);
         let ascending = number > before;
         before = number;
-        ascending && number <= 99999 && u16_at(entry, ROW.at) <= 1 && u16_at(entry, SETTLED.at) <= 1
+        ascending && number <= 99999 && u16_at(entry, ROW.at) <= 1 && settling_in(entry).is_some()
     })
 }
 
-fn sound_block(block: &[u8]) -> bool {
-    block[..RAW].chunks_exact(HEAD).all(|b| sound_head(Head::from_bytes(array(b, 0))))
+/// A block beside its station's sound entry.
+fn sound_block(entry: &[u8], block: &[u8]) -> bool {
+    let under_way = matches!(settling_in(entry), Some(Settling::UnderWay { .. }));
+    let sound_copy = |copy: u8| if under_way { sound_dd(copy) } else { copy == 0 };
+    let mut heads = block[..RAW].chunks_exact(HEAD).map(|bytes| Head::from_bytes(array(bytes, 0)));
+    heads.all(|head| sound_head(head) && sound_copy(head.dd_copy))
         && sound_cells(&block[RAW..CHECKED], sound_raw)
         && sound_cells(&block[CHECKED..], sound_checked)
 }
@@ -190,9 +248,12 @@ fn sound_head(head: Head) -> bool {
     head.filed <= 1
         && head.ir <= 5
         && head.tr <= 9
-        && (head.dd <= 36 || head.dd == 99 || head.dd == 100)
+        && sound_dd(head.dd)
         && u32::from(head.rank) <= if head.filed == 0 { 0 } else { HIGHEST_RANK }
-        && head.spare == 0
+}
+
+fn sound_dd(dd: u8) -> bool {
+    matches!(dd, 0..=36 | 99 | 100)
 }
 
 fn sound_raw(cell: Cell) -> bool {
@@ -291,7 +352,7 @@ pub fn find(store: &[u8], station: u32) -> Result<usize, Refusal> {
 }
 
 #[inline]
-fn number(store: &[u8], index: usize) -> u32 {
+pub fn number(store: &[u8], index: usize) -> u32 {
     u32_at(store, entry_at(index) + NUMBER.at)
 }
 
@@ -300,16 +361,27 @@ pub fn row(store: &[u8], index: usize) -> usize {
     u16_at(store, entry_at(index) + ROW.at) as usize
 }
 
+/// What the settled number of a station's entry says, if it may stand there.
+#[inline]
+fn settling_in(entry: &[u8]) -> Option<Settling> {
+    Settling::from_number(u16_at(entry, SETTLED.at))
+}
+
+/// How far a station's settling is, in a sound store.
+pub fn settling(store: &[u8], index: usize) -> Settling {
+    settling_in(&store[entry_at(index)..]).expect("a sound store")
+}
+
+pub fn set_settling(store: &mut [u8], index: usize, settling: Settling) {
+    put_u16(store, entry_at(index) + SETTLED.at, settling.number());
+}
+
 pub fn require_settled(store: &[u8], index: usize) -> Result<(), Refusal> {
-    if u16_at(store, entry_at(index) + SETTLED.at) == 1 {
+    if settling(store, index) == Settling::Settled {
         Ok(())
     } else {
         Err(Refusal::NotSettled)
     }
-}
-
-pub fn set_settled(store: &mut [u8], index: usize, settled: u16) {
-    put_u16(store, entry_at(index) + SETTLED.at, settled);
 }
 
 /// The station's own part of the store.
@@ -330,6 +402,13 @@ pub fn head(block: &[u8], slot: usize) -> Head {
 #[inline]
 pub fn put_head(block: &mut [u8], slot: usize, head: Head) {
     block[head_at(slot)..head_at(slot) + HEAD].copy_from_slice(&head.to_bytes());
+}
+
+/// The nine copies of dd, slot by slot.
+pub fn put_dd_copies(block: &mut [u8], copies: [u8; 9]) {
+    for (slot, copy) in copies.into_iter().enumerate() {
+        block[head_at(slot) + DD_COPY.at] = copy;
+    }
 }
 
 /// Replaces a slot's head and its nine raw cells.

@@ -8,7 +8,7 @@ pub fn number(digits: &[u8]) -> Option<i32> {
     digits.iter().try_fold(0, |sum, byte| byte.is_ascii_digit().then(|| 10 * sum + i32::from(byte - b'0')))
 }
 
-/// The head and the raw cells that an accepted report of a rank leaves in a slot.
+/// The head, but for the copy of dd, and the raw cells that an accepted report of a rank leaves in a slot.
 pub fn slot(slot: usize, iw: u8, report: &Observation, rank: u8) -> (Head, [Cell; 9]) {
     let ir = rain_indicator(report.visibility);
     let rain = match report.section1[6].or(report.section3[6]) {
@@ -21,7 +21,7 @@ pub fn slot(slot: usize, iw: u8, report: &Observation, rank: u8) -> (Head, [Cell
         tr: rain.map_or(0, |(_, tr)| tr),
         dd: wind_direction(report.wind),
         rank,
-        spare: 0,
+        dd_copy: 0,
     };
     let read = |value: Option<i32>| Cell::raw(value.map(|value| value as i16));
     let cells = [

@@ -3,7 +3,7 @@
 use super::{lend, settled, two, Take, ASK_SECOND, STATION, STATIONS, TIMES, TWO};
 use crate::generate::stores::Edits;
 use crate::generate::{Call, Step};
-use crate::reference::layout::{Record, FILED, RANK, SETTLED, SPARE};
+use crate::reference::layout::{Record, DD_COPY, FILED, RANK, SETTLED};
 use crate::reference::store::{HIGHEST_RANK, P, T};
 
 /// Those that a filing call may give, and the first that it may not.
@@ -31,9 +31,9 @@ pub fn heads_of_a_store(take: Take) {
     let store = two();
     for head in Record::all(TWO).filter(|record| matches!(record, Record::Head { .. })) {
         take(Step::Lend(store.clone()));
-        for (filed, spare) in (0..3).flat_map(|filed| [0, 1, 255].map(|spare| (filed, spare))) {
+        for (filed, last) in (0..3).flat_map(|filed| [0, 1, 255].map(|last| (filed, last))) {
             for rank in 0..=255 {
-                let fields = [(FILED, filed), (RANK, rank), (SPARE, spare)];
+                let fields = [(FILED, filed), (RANK, rank), (DD_COPY, last)];
                 let edits = fields.into_iter().flat_map(|(field, n)| head.edit(TWO, field, n)).collect();
                 take(Step::Damaged { edits, call: ASK_SECOND });
             }
@@ -101,10 +101,10 @@ pub fn refused_texts(take: Take) {
             meet(take, slot, Call::File { text: text.into(), rank });
         }
     }
-    let spare = Record::Head { index: 0, slot: 8 }.edit(1, SPARE, 1);
+    let copy = Record::Head { index: 0, slot: 8 }.edit(1, DD_COPY, 1);
     for (text, rank) in texts.into_iter().flat_map(|text| ranks().map(move |rank| (text, rank))) {
         for call in [Call::File { text: text.into(), rank }, Call::Bulletin { text: text.into(), rank }] {
-            take(Step::Damaged { edits: spare.clone(), call });
+            take(Step::Damaged { edits: copy.clone(), call });
         }
     }
 }

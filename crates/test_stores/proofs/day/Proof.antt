@@ -1,16 +1,16 @@
--- `test_calls::day` is safe and ends.
+-- `test_stores::day` is safe and ends.
 -- Assumes nothing.
 use mathlib.Core.Path.{subst}
 use Rattle.engine_answers.specs.declared.DayReply.{DayReply}
 use Rattle.engine_answers.specs.Replies.{SaysDay}
 use Rattle.rules.specs.Calls as Calls
 use Rattle.rules.specs.Step.{step}
-use Rattle.test_calls.proofs.Lines as Lines
+use Rattle.test_stores.proofs.Lines as Lines
 use borrow.Author.Needs.{needs}
-use Rattle.test_calls.proofs.day.Statement.{statement}
-use Rattle.test_calls.proofs.day.Tie as tie
-use Rattle.test_calls.proofs.day.Reads as reads
-use Rattle.test_calls.proofs.day.Lts as lts
+use Rattle.test_stores.proofs.day.Statement.{statement}
+use Rattle.test_stores.proofs.day.Tie as tie
+use Rattle.test_stores.proofs.day.Reads as reads
+use Rattle.test_stores.proofs.day.Lts as lts
 use Rattle.engine.proofs.day.Reads as day-reads
 use Rattle.test_cases.proofs.print.count.Reads as count-reads
 use Rattle.test_cases.proofs.print.print_line.Reads as print-line-reads

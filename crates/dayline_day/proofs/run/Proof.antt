@@ -2,8 +2,8 @@
 -- Assumes nothing.
 use borrow.Author.Needs.{needs}
 use Rattle.dayline_text.proofs.Parts.{fits, counts}
-use Rattle.dayline.proofs.run.Statement.{statement}
-use Rattle.dayline.proofs.run.Tie as tie
+use Rattle.dayline_day.proofs.run.Statement.{statement}
+use Rattle.dayline_day.proofs.run.Tie as tie
 
 array-share-prefix-stations : tie.Need-array-share-prefix-stations
 array-share-prefix-stations c = let a = c .before .before .before .before .before .before .before .before .before .before in fits _ 32 (a .args .o .stations) (a .pre .1 .0) (search needs)

@@ -1,0 +1,2 @@
+-- A call by what the search for its station answers.
+pub mod Located
