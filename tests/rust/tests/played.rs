@@ -3,8 +3,12 @@
 use reading::calls::{Calls, Reference};
 use reading::played::{crc32, play};
 
-/// Those of the states after S-5 and after S-6; the first hold in both.
-const CALLS: [&str; 2] = [include_str!("../data/calls-05.txt"), include_str!("../data/calls-06.txt")];
+/// Those of the states after S-5 and after S-6, of which the first hold in both, and two days worked by hand.
+const CALLS: [&str; 3] = [
+    include_str!("../data/calls-05.txt"),
+    include_str!("../data/calls-06.txt"),
+    include_str!("../data/calls-days.txt"),
+];
 
 fn plays(calls: &dyn Calls) {
     for written in CALLS {
