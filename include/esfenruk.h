@@ -49,8 +49,9 @@ uint32_t esfenruk_cell(const uint8_t *store, size_t store_length, uint32_t stati
    means: T, D, P, W, C, vapour pressure; 0.0 where absent. With a humidity in one of slots 0 to 7 D's mean is absent; the
    vapour pressure of that slot is the humidity's share of the table's entry at its temperature.
    numbers: 0 to 5 the kind of each mean (0 absent, 1 read, 2 mended); 6 whether there is rain (0, 1); 7 the rain in tenths
-   of mm (0 where absent); 8, 9 the warmest and the coldest slot (-1 where absent); 10 to 13 how many of the 81 cells are
-   read (humidities too), corrected, filled, missing. */
+   of mm (0 where absent); 8, 9 the warmest and the coldest of slots 0 to 7 (-1 where absent), of several with the same
+   temperature the latest warmest and the earliest coldest; 10 to 13 how many of the 81 cells are read (humidities too),
+   corrected, filled, missing. */
 uint32_t esfenruk_day(const uint8_t *store, size_t store_length, uint32_t station, double means[6], int32_t numbers[14]);
 
 /* Files the reports of a bulletin in order, all at one rank: 0, or 9, 13 (the rank is above 24), 1, 3, 4 for the whole.

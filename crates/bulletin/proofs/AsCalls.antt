@@ -7,11 +7,11 @@ use mathlib.Core.List.{List, [], _∷_}
 use Prim.Native.Nat.{ℕ}
 use lib.Dec.{leb}
 use lib.ListN.{length, drop}
-use Rattle.laws.proofs.Bools.{Known, is-true, is-false, known, cond-same}
+use Rattle.laws.proofs.Bools.{Known, is-true, is-false, known}
 use Rattle.store_layout.specs.Form.{ours}
 use Rattle.store_layout.specs.Sound.{sound}
 use Rattle.store_layout.specs.Valid.{isRank}
-use Rattle.rules.specs.Calls.{Call, file}
+use Rattle.rules.specs.Calls.{file}
 use Rattle.rules.specs.Step.{Outcome, step}
 use Rattle.rules.specs.Runs.{left}
 use Rattle.engine_answers.proofs.Outcomes.{step-unsound}

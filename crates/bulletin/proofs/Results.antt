@@ -1,7 +1,7 @@
 -- What the whole text of a bulletin gives, by its heading and the reports behind it.
 -- Assumes nothing.
 use mathlib.Core.Path.{_≡_, refl, sym, _∙_, ap, subst}
-use mathlib.Core.Bool.{Bool, true, false, cond, _&&_}
+use mathlib.Core.Bool.{Bool, true, false, _&&_}
 use mathlib.Core.List.{List, [], _∷_, map}
 use mathlib.Core.Logic.{⊎-elim}
 use Prim.Native.Nat.{ℕ, zero, suc, _-_, _≤_}
@@ -19,7 +19,7 @@ use Rattle.synop_text.specs.Groups.{groups}
 use Rattle.synop_text.specs.Walk.{part}
 use Rattle.bulletin_text.specs.declared.Heading.{Heading}
 use Rattle.bulletin_text.specs.declared.Heading.the-variants.{Timed}
-use Rattle.bulletin_text.specs.Heading.{headingIn, Begins}
+use Rattle.bulletin_text.specs.Heading.{Begins}
 use Rattle.bulletin_text.specs.Pieces.{pieces, parted}
 use Rattle.bulletin_text.specs.Rebuilt.{heading}
 use Rattle.text_bytes.specs.Reached.{Reached}

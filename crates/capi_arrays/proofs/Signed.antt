@@ -3,7 +3,7 @@
 use mathlib.Core.Path.{_≡_, _∙_, ap}
 use Prim.Native.Nat.{ℕ, suc, _-_}
 use lib.Dec.{ltb}
-use lib.IntN.{ℤ, pos, negsuc, subℕ}
+use lib.IntN.{pos, negsuc, subℕ}
 use native.Mathlib.Omega.{arith}
 use borrow.Author.Tests.{le-ltb}
 use Rattle.laws.proofs.Bools.{cond-false}

@@ -1,7 +1,7 @@
 -- A day line as arrays of numbers: what the call day writes into the caller's arrays.
 -- Assumes nothing.
 use mathlib.Core.List.{List, [], _∷_}
-use Prim.Native.Nat.{ℕ, _<_}
+use Prim.Native.Nat.{_<_}
 use lib.IntN.{ℤ, pos, negsuc}
 use lib.Ieee.{Float, binary64, ofBits}
 use Rattle.daily.specs.Coded.{meanOf, rainOf, slotOf}

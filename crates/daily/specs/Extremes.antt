@@ -1,4 +1,5 @@
--- "Warmest and coldest slot among 0 to 7, by checked T, the earliest on ties; absent without any T."
+-- "Warmest and coldest slot among 0 to 7, by checked T, the earliest on ties; absent without any T." Since S-7 the warmest is the latest:
+-- "Among equal temperatures the warmest slot is now the latest. The coldest slot keeps the earliest."
 -- Assumes nothing.
 use mathlib.Core.Bool.{Bool, not, cond, _&&_, _||_}
 use mathlib.Core.List.{List}
@@ -8,15 +9,21 @@ use lib.IntN.{ℤ}
 use lib.Signed.{ltZ}
 use Rattle.laws.specs.All.{all}
 use Rattle.quality.specs.Cell.{Cell, missing, there, slot}
+use Rattle.daily.specs.declared.extremes.Tie.{Tie}
+use Rattle.daily.specs.declared.extremes.Tie.the-variants.{Earliest, Latest}
 
--- the first of 0 .. n - 1 at which p holds
-unfoldable pub earliest : (ℕ → Bool) → ℕ → Option ℕ
-earliest p zero = none
-earliest p (suc n) = or (earliest p n) (cond (p n) (some n) none)
+-- which of 0 .. n - 1 it is at which p holds: where there are several, "the earliest on ties" or the latest
+unfoldable pub onTies : Tie → (ℕ → Bool) → ℕ → Option ℕ
+onTies tie p zero = none
+onTies tie p (suc n) = choose tie (onTies tie p n) (cond (p n) (some n) none)
   where
     or : Option ℕ → Option ℕ → Option ℕ
     or none b = b
     or (some k) b = some k
+
+    choose : Tie → Option ℕ → Option ℕ → Option ℕ
+    choose Earliest before last = or before last
+    choose Latest before last = or last before
 
 -- slot k has a temperature, and none of the slots 0 to 7 has one that is beyond it. `beyond x y`: x is warmer (or colder) than y
 abbrev pub utmost : (ℤ → ℤ → Bool) → List Cell → ℕ → Bool
@@ -24,7 +31,7 @@ utmost beyond ts k =
     there (slot ts k) && all (λ j. missing (slot ts j) || not (beyond (slot ts j .value) (slot ts k .value))) 8
 
 unfoldable pub warmest : List Cell → Option ℕ
-warmest ts = earliest (utmost (λ x y. ltZ y x) ts) 8
+warmest ts = onTies Latest (utmost (λ x y. ltZ y x) ts) 8
 
 unfoldable pub coldest : List Cell → Option ℕ
-coldest ts = earliest (utmost ltZ ts) 8
+coldest ts = onTies Earliest (utmost ltZ ts) 8

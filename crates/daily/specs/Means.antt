@@ -1,6 +1,6 @@
 -- "Means of T, D, P, W, C and of vapour pressure over slots 0 to 7."
 -- Assumes nothing.
-use mathlib.Core.Bool.{Bool, not, cond, _&&_, _||_}
+use mathlib.Core.Bool.{Bool, not, cond, _||_}
 use mathlib.Core.List.{List}
 use mathlib.Core.Option.{Option, none, some}
 use Prim.Native.Nat.{ℕ, zero, suc, _+_, _*_, _/_}

@@ -5,6 +5,7 @@ ghost use Rattle.daily.specs.Coded.{Says};
 ghost use Rattle.daily.specs.Line.{dayLine};
 use daily::DayLine;
 use daily::counts::count;
+use daily::extremes::Tie;
 use daily::extremes::extreme;
 use daily_means::mean;
 use daily_means::vapours::vapour_column;
@@ -31,8 +32,8 @@ pub fn day_line(checked: [Column; 9], heads: [SlotHead; 9]) -> DayLine
         cloud: mean(c),
         vapour: mean(vapour_column(t, d)),
         rain: rain_total(heads, r),
-        warmest: extreme(t, true),
-        coldest: extreme(t, false),
+        warmest: extreme(Tie::Latest, true, t),
+        coldest: extreme(Tie::Earliest, false, t),
         read: count(checked, 1),
         corrected: count(checked, 2),
         filled: count(checked, 3),

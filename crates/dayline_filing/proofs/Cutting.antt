@@ -1,14 +1,14 @@
 -- The cut into reports, of one byte and of two texts one behind the other, and blanks.
 -- Assumes nothing.
-use mathlib.Core.Path.{_≡_, refl, sym, _∙_, ap}
-use mathlib.Core.Bool.{Bool, true, false, _&&_, cond}
+use mathlib.Core.Path.{_≡_, refl, _∙_, ap}
+use mathlib.Core.Bool.{Bool, true, false, _&&_}
 use mathlib.Core.List.{List, [], _∷_, _++_}
 use Prim.Native.Nat.{ℕ}
 use borrow.Author.Tests.{eq-eqb, ne-eqb}
 use lib.Dec.{eqb}
 use Rattle.laws.proofs.Bools.{Known, is-true, is-false, known}
 use Rattle.dayline_text.specs.Cuts.{isBlank}
-use Rattle.dayline_filing.specs.Reports.{reports, rest, allBlank, tail}
+use Rattle.dayline_filing.specs.Reports.{reports, rest, allBlank}
 
 -- ---- no byte
 pub reports-none : (run : List ℕ) → reports run [] ≡ []

@@ -12,7 +12,7 @@ use Rattle.laws.proofs.Bools.{and-eq}
 use Rattle.store_layout.specs.Layout.{decode}
 use Rattle.store_layout.specs.Sound.{sound}
 use Rattle.synop.specs.Report.{Report}
-use Rattle.rules.specs.Calls.{Answer, refused, isAccepted, file, ask, askFile}
+use Rattle.rules.specs.Calls.{Answer, refused, isAccepted, file, askFile}
 use Rattle.rules.proofs.Reports.{cut-report}
 use Rattle.rules.specs.Step.{Outcome, unchanged, stepIn, asked, step}
 use Rattle.engine_answers.specs.Replies.{Did}

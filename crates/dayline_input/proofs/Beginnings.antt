@@ -4,10 +4,10 @@
 --     none, more         no piece yet, and a piece without an LF more
 --     begins             the line ends in a piece
 -- Assumes nothing.
-use mathlib.Core.Path.{_≡_, refl, sym, _∙_, ap, subst}
-use mathlib.Core.Bool.{Bool, true, false, cond, _||_}
+use mathlib.Core.Path.{_≡_, refl, sym, _∙_, ap}
+use mathlib.Core.Bool.{Bool, true, false, _||_}
 use mathlib.Core.List.{List, [], _∷_, _++_, append-assoc}
-use Prim.Native.Nat.{ℕ, zero, suc, _+_, _<_, _≤_}
+use Prim.Native.Nat.{ℕ, suc, _+_, _<_, _≤_}
 use native.Mathlib.Omega.{arith}
 use borrow.Author.Tests.{lt-ltb, le-ltb, eq-eqb, ne-eqb, ltb-true, ltb-false}
 use lib.Dec.{eqb, ltb}
@@ -19,7 +19,7 @@ use Rattle.dayline_text.specs.Cuts.{index, Found}
 use Rattle.dayline_text.specs.FirstLine.{firstLine}
 use Rattle.dayline_text.specs.Line.{goes}
 use Rattle.dayline_text.specs.declared.first_line.Line.{Line}
-use Rattle.dayline_input.specs.Input.{lineFeed, lineIn, reportsFrom, endsIn, Takes, Unended, Placed, Begins}
+use Rattle.dayline_input.specs.Input.{lineFeed, lineIn, reportsFrom, Takes, Unended, Begins}
 use Rattle.dayline_input.specs.declared.Taken.{Taken}
 
 -- ---- a piece

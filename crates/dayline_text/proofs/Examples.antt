@@ -1,8 +1,7 @@
 -- The first line of the paper's example through the definitions.
 -- Assumes nothing.
 use mathlib.Core.Path.{_≡_, refl}
-use mathlib.Core.List.{List, [], _∷_}
-use Prim.Native.Nat.{ℕ}
+use mathlib.Core.List.{[], _∷_}
 use Rattle.laws.specs.Table.{table}
 use Rattle.dayline_text.specs.FirstLine.{cannotOpen, opens, first, firstLine, isPlain, numbersFrom}
 

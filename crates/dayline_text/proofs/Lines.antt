@@ -1,20 +1,20 @@
 -- The first line: the end of a number, one byte more, a piece more, and what the whole line opens.
 -- Assumes nothing.
-use mathlib.Core.Path.{_≡_, refl, sym, _∙_, ap, ap₂, subst}
-use mathlib.Core.Bool.{Bool, true, false, _&&_, _||_, cond}
-use mathlib.Core.List.{List, [], _∷_, _++_, append-assoc, append-nil}
-use Prim.Native.Nat.{ℕ, suc, _+_, _*_, _-_, _/_, _<_, _≤_}
+use mathlib.Core.Path.{_≡_, refl, sym, _∙_, ap, ap₂}
+use mathlib.Core.Bool.{Bool, true, false, _&&_}
+use mathlib.Core.List.{List, [], _∷_, _++_, append-assoc}
+use Prim.Native.Nat.{ℕ, _+_, _<_, _≤_}
 use native.Mathlib.Numerals.{add-one}
 use native.Mathlib.Omega.{arith}
-use borrow.Author.Tests.{le-leb, lt-leb, leb-true}
-use lib.Dec.{leb, eqb}
+use borrow.Author.Tests.{le-leb, lt-leb}
+use lib.Dec.{leb}
 use lib.ListN.{length, take, drop, set, getD, length-append, drop-of-length-le}
 use lib.Seq.{take-all, take-suc-set, drop-cons}
-use Rattle.laws.proofs.Bools.{and-true, and-left, and-right, and-false-left, and-false-right, via}
+use Rattle.laws.proofs.Bools.{and-false-left, and-false-right}
 use Rattle.synop_text.specs.Characters.{isDigit}
 use Rattle.dayline_text.specs.Cuts.{isBlank}
 use Rattle.dayline_text.specs.declared.first_line.Line.{Line}
-use Rattle.dayline_text.specs.FirstLine.{First, cannotOpen, first, firstLine, isWhole, isPlain, closed, grown, numbersFrom}
+use Rattle.dayline_text.specs.FirstLine.{cannotOpen, first, firstLine, isWhole, isPlain, closed, grown, numbersFrom}
 use Rattle.dayline_text.specs.Line.{isGood, with, goes, Ended}
 
 -- ---- lines that cannot open a store

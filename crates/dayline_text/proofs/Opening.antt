@@ -1,9 +1,9 @@
 -- What a whole line opens, out of the numbers that the code has.
 -- Assumes nothing.
-use mathlib.Core.Path.{_≡_, refl, sym, _∙_, ap, ap₂, subst}
+use mathlib.Core.Path.{_≡_, refl, sym, _∙_, ap}
 use mathlib.Core.Bool.{Bool, true, false, _&&_, cond}
-use mathlib.Core.List.{List, [], _∷_, _++_, append-nil}
-use Prim.Native.Nat.{ℕ, zero, suc, _+_, _*_, _-_, _/_, _%_, _<_, _≤_, min}
+use mathlib.Core.List.{List, [], _∷_, append-nil}
+use Prim.Native.Nat.{ℕ, zero, suc, _+_, _*_, _%_, _<_, _≤_, min}
 use native.Mathlib.Nat.{le-of-suc-le-suc, not-suc-le-zero}
 use native.Mathlib.Omega.{arith}
 use borrow.Author.Tests.{le-leb, leb-true, eq-eqb, ne-eqb}
@@ -11,11 +11,11 @@ use lib.Dec.{leb, eqb}
 use lib.ListN.{length, take, getD}
 use lib.Seq.{length-take-le, getD-take}
 use Rattle.laws.specs.Table.{table}
-use Rattle.laws.proofs.Bools.{Known, is-true, is-false, known, cond-true, cond-false, and-true, and-left, and-right, and-false-left, and-false-right}
+use Rattle.laws.proofs.Bools.{Known, is-true, is-false, known, cond-true, cond-false, and-left, and-right, and-false-left, and-false-right}
 use Rattle.laws.proofs.Tables.{table-ext}
 use Rattle.dayline_text.specs.declared.first_line.Line.{Line}
-use Rattle.dayline_text.specs.FirstLine.{First, cannotOpen, opens, opened, first, isWhole, pairs, station, row, closed, isPlain, numbersFrom}
-use Rattle.dayline_text.specs.Line.{isGood, with, goes, told, Ended, Opens}
+use Rattle.dayline_text.specs.FirstLine.{cannotOpen, opens, opened, first, isWhole, pairs, station, row, isPlain, numbersFrom}
+use Rattle.dayline_text.specs.Line.{isGood, with, goes, Ended, Opens}
 
 -- ---- the first entries of a table
 take-table : (n m : ℕ) (f : ℕ → ℕ) → n ≤ m → take n (table m f) ≡ table n f

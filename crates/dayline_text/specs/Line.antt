@@ -4,7 +4,7 @@ use mathlib.Core.Bool.{Bool, false, _&&_, cond}
 use mathlib.Core.List.{List, [], _++_}
 use mathlib.Core.Path.{_≡_}
 use lib.Dec.{eqb, leb}
-use lib.ListN.{length, take}
+use lib.ListN.{take}
 use Rattle.dayline_text.specs.declared.first_line.Line.{Line}
 use Rattle.dayline_text.specs.declared.first_line.Opening.{Opening}
 use Rattle.dayline_text.specs.FirstLine.{First, cannotOpen, opens, first, closed, isPlain, numbersFrom}

@@ -65,7 +65,7 @@ pub fn begin(store: &mut [u8], station: u32) -> Reply
         Located::Unsound => Reply::Refused(9),
         Located::Absent => Reply::Refused(6),
         Located::At(index) => {
-            engine_settling::begin_at(store, index);
+            engine_portions::begin_at(store, index);
             Reply::Accepted
         }
     }
@@ -78,7 +78,7 @@ pub fn step(store: &mut [u8], station: u32) -> Reply
     match locate(store, station) {
         Located::Unsound => Reply::Refused(9),
         Located::Absent => Reply::Refused(6), // before 14
-        Located::At(index) => engine_settling::step_at(store, index),
+        Located::At(index) => engine_portions::step_at(store, index),
     }
 }
 

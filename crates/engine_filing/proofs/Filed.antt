@@ -1,36 +1,28 @@
 -- A report filed at a rank: refused where the rank is above 24.
 --     file-high, file-ranked
--- In a slot: refused where the slot has a higher rank or is filed with that rank, else filed.
---     below, above, already, free
--- The station that filing makes, as the code makes it.
---     filed-as
+-- Of the station that it names, by what the search for it answers.
+--     never-unsound, absent, found-below, found
 -- Assumes nothing.
-use mathlib.Core.Path.{_≡_, refl, sym, _∙_, ap, ap₂}
-use mathlib.Core.Bool.{Bool, true, false, cond, _&&_}
+use mathlib.Core.Path.{_≡_, refl, sym, _∙_, ap}
+use mathlib.Core.Bool.{Bool, true, false, cond}
 use mathlib.Core.List.{List}
 use Prim.Native.Nat.{ℕ, _<_}
-use native.Mathlib.Omega.{arith}
-use borrow.Author.Tests.{lt-ltb, le-ltb, eq-eqb, ne-eqb}
-use lib.Dec.{ltb, eqb}
-use Rattle.laws.proofs.Bools.{and-eq, and-false-right}
-use Rattle.synop_codes.specs.Value.{Value}
-use Rattle.store_layout.specs.Model.{Block, Station, Store, headOf}
-use Rattle.store_layout.specs.Layout.{decode, encode}
-use Rattle.quality.specs.declared.head.SlotHead.{SlotHead}
+use Rattle.store_layout.specs.Model.{Station, Store, stationAt}
+use Rattle.store_layout.specs.Layout.{word, countAt, decode}
+use Rattle.store_layout.specs.Index.{Index, nowhere, index, indexIn, numbers}
 use Rattle.store_layout.specs.Sound.{sound}
 use Rattle.store_layout.specs.Valid.{isRank}
-use Rattle.store_layout.specs.Updates.{withSlot, withBlock, withStation}
-use Rattle.synop_contents.specs.declared.Indicators.{Indicators}
-use Rattle.rules.specs.Calls.{Answer, refused, accepted, file, Ask, unnamed, named, denied, askFile, deny}
-use Rattle.rules.specs.Rules.{Effect, keeps, makes, filedHead, filedCells, reported, filed, fileAt}
-use Rattle.rules.specs.Step.{Outcome, unchanged, after, asked, step}
+use Rattle.rules.specs.Calls.{Answer, refused, file, Request, Ask, unnamed, named, denied, askFile, deny}
+use Rattle.rules.specs.Rules.{Effect, rule}
+use Rattle.rules.specs.Reaction.{dateOf}
+use Rattle.rules.specs.Step.{unchanged, after, asked, step}
 use Rattle.synop.specs.Report.{report}
+use Rattle.store_soundness.specs.Located.{placed}
+use Rattle.store_soundness.specs.declared.find.Located.{Located}
+use Rattle.store_soundness.specs.declared.find.Located.the-variants.{Unsound, Absent, At}
+use Rattle.store_soundness.proofs.Locations.{placed-same, not-placed, within}
 use Rattle.engine_answers.specs.Replies.{Did}
-use Rattle.engine_answers.proofs.Outcomes.{step-sound}
-
--- an outcome that is another one
-pub did-as : {o p : Outcome} {a : Answer} {t : List ℕ} → o ≡ p → Did p a t → Did o a t
-did-as e d = record { answer = d .answer ∙ ap (λ (o : Outcome). o .answer) (sym e); left = d .left ∙ ap (λ (o : Outcome). o .store) (sym e) }
+use Rattle.engine_answers.proofs.Outcomes.{did-as, step-sound, none-did, at-did}
 
 -- ---- the rank alone
 -- what is denied is refused, whatever was asked
@@ -54,41 +46,22 @@ module _ (text : List ℕ) (rank : ℕ) (s : List ℕ) (h : sound s ≡ true) wh
   pub file-ranked : isRank rank ≡ true → step (file text rank) s ≡ asked (askFile rank (report text)) (decode s) s
   file-ranked e = by-rank true e
 
--- ---- the slot
--- by the head that it has, as the code looks at it: its rank higher than this one, lower, or the same
-module _ (k rank : ℕ) (head : Indicators) (values : List Value) (t : Station) {old : SlotHead} (e : old ≡ headOf (t .block) k) where
-  abbrev byTests : Bool → Bool → Effect
-  byTests below same = cond below (keeps (refused 13)) (cond same (keeps (refused 8)) (makes (filed k rank head values t)))
+-- ---- the station
+-- by what `find` answers
+module _ (s : List ℕ) (x : ℕ) {r : Located} (h : r ≡ placed (indexIn (numbers (decode s)) x)) where
+  told : (p : Index) → r ≡ placed p → indexIn (numbers (decode s)) x ≡ p
+  told p e = placed-same (indexIn (numbers (decode s)) x) p (sym h ∙ e)
 
-  rule-as : (a b : Bool) → ltb rank (old .rank) ≡ a → (eqb (old .filed) 1 && eqb rank (old .rank)) ≡ b → fileAt k rank head values t ≡ byTests a b
-  unfolding fileAt
-  rule-as a b p q =
-      ap (λ (h : SlotHead). byTests (ltb rank (h .rank)) (eqb (h .filed) 1 && eqb rank (h .rank))) (sym e) ∙ ap₂ byTests p q
+  pub never-unsound : r ≡ Unsound → ⊥
+  never-unsound e = not-placed (indexIn (numbers (decode s)) x) (sym e ∙ h)
 
-  pub below : rank < old .rank → fileAt k rank head values t ≡ keeps (refused 13)
-  below p = rule-as true _ (lt-ltb rank (old .rank) p) refl
+  pub found-below : {i : ℕ} → r ≡ At i → i < word s countAt
+  found-below {i} e = within s x i (told (index i) e)
 
-  pub above : old .rank < rank → fileAt k rank head values t ≡ makes (filed k rank head values t)
-  above p =
-      rule-as false false (le-ltb rank (old .rank) (omega (arith, p)))
-      (and-false-right (eqb (old .filed) 1) (eqb rank (old .rank)) (ne-eqb rank (old .rank) (λ q. omega (arith, p, q))))
+  module _ (d : Request) where
+    pub absent : r ≡ Absent → Did (asked (named x d) (decode s) s) (refused 6) s
+    absent e = none-did s x d (told nowhere e)
 
-  module _ (p : rank ≡ old .rank) where
-    same-as : (b : Bool) → eqb (old .filed) 1 ≡ b → fileAt k rank head values t ≡ byTests false (b && true)
-    same-as b f =
-        rule-as false (b && true) (le-ltb rank (old .rank) (omega (arith, p))) (and-eq f (eq-eqb rank (old .rank) p))
-
-    pub already : old .filed ≡ 1 → fileAt k rank head values t ≡ keeps (refused 8)
-    already f = same-as true (eq-eqb (old .filed) 1 f)
-
-    pub free : (old .filed ≡ 1 → ⊥) → fileAt k rank head values t ≡ makes (filed k rank head values t)
-    free f = same-as false (ne-eqb (old .filed) 1 f)
-
-pub filed-as : (k rank : ℕ) (head : Indicators) (values : List Value) (t : Station) (n m : ℕ) (b x : Block) → n ≡ t .settled → m ≡ reported n
-    → b ≡ t .block → x ≡ withSlot k (filedHead k rank (headOf b k .copy) head) (filedCells k head values) b
-    → withBlock x m t ≡ filed k rank head values t
-unfolding filed
-filed-as k rank head values t n m b x p q r e =
-    ap₂ (λ (y : Block) (o : ℕ). withBlock y o t)
-    (e ∙ ap (λ (c : Block). withSlot k (filedHead k rank (headOf c k .copy) head) (filedCells k head values) c) r)
-    (q ∙ ap reported p)
+    pub found : {i : ℕ} → r ≡ At i → {f : Station → Effect} → ((y : Station) → rule (dateOf (decode s)) d y ≡ f y) → {a : Answer} {t : List ℕ}
+        → Did (after (f (stationAt (decode s .stations) i)) i (decode s) s) a t → Did (asked (named x d) (decode s) s) a t
+    found {i} e q w = at-did s x d (told (index i) e) (did-as (ap (λ (f : Effect). after f i (decode s) s) (q (stationAt (decode s .stations) i))) w)

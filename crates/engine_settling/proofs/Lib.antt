@@ -1,2 +1,2 @@
--- A station's block settled, at once or in portions, as the code makes it.
-pub mod Blocks
+-- A station settled at once, as the code makes it.
+pub mod Settled

@@ -2,7 +2,7 @@
 --     line-same      the code's line is the paper's in the code's terms
 --     returned-refused, returned-line
 -- Assumes nothing.
-use mathlib.Core.Path.{_≡_, refl, sym, _∙_, ap, subst}
+use mathlib.Core.Path.{_≡_, refl, _∙_, ap}
 use mathlib.Core.List.{List}
 use Prim.Native.Nat.{ℕ}
 use lib.IntN.{ℤ}
@@ -12,7 +12,7 @@ use Rattle.daily.specs.Line as Line
 use Rattle.daily.specs.declared.DayLine.{DayLine}
 use Rattle.engine_answers.specs.Replies.{SaysDay}
 use Rattle.engine_answers.specs.declared.DayReply.the-variants as reply
-use Rattle.rules.specs.Calls.{Answer, refused, aDay}
+use Rattle.rules.specs.Calls.{Answer}
 use Rattle.rules.proofs.Answers.{is-refused, IsDay, is-day}
 use Rattle.capi_arrays.specs.Arrays.{lineOf, floats, numbers}
 use Rattle.esfenruk.specs.Arrays.{ExactMeans, DayReturned}

@@ -10,7 +10,7 @@ use Rattle.store_layout.specs.Index.{Index, nowhere, index, indexIn, numbers}
 use Rattle.store_layout.specs.Form.{ours}
 use Rattle.store_layout.specs.Sound.{sound}
 use Rattle.store_layout.specs.Model.{Station, stationAt}
-use Rattle.rules.specs.Calls.{Answer, refused, aDay, onDay, day, giveDay, ask}
+use Rattle.rules.specs.Calls.{Answer, refused, aDay, onDay, day, ask}
 use Rattle.rules.specs.Rules.{rule, dayOf}
 use Rattle.rules.specs.Reaction.{stays, at}
 use Rattle.rules.specs.Step.{Outcome, outcomeIn, stepIn, step, asked, unchanged}

@@ -156,7 +156,7 @@ pub extern "C" fn esfenruk_bulletin(
 pub extern "C" fn esfenruk_vapour_table(entries: &mut [u16]) -> u32
     ensures { λ r. ⌜ Fills 0 (λ n. n) (now (entries .entry)) r (now (entries .exit)) ⌝ }
 {
-    match vapour::generator::fill(entries) {
+    match vapour_generator::fill(entries) {
         Filling::Filled => 0,
         Filling::LengthNeeded(n) => n,
     }

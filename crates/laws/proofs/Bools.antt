@@ -1,7 +1,7 @@
 -- Tests joined, negated and chosen by.
 -- Assumes nothing.
 use mathlib.Core.Path.{_≡_, refl, sym, _∙_, ap₂}
-use mathlib.Core.Bool.{Bool, true, false, not, _&&_, _||_, cond}
+use mathlib.Core.Bool.{Bool, true, false, _&&_, _||_, cond}
 
 module _ {ℓ} {A : Type ℓ} where
   pub cond-true : (b : Bool) (x y : A) → b ≡ true → cond b x y ≡ x
@@ -53,6 +53,19 @@ and-right false false e = e
 -- both of two that hold together
 pub both : {a b : Bool} → (a && b) ≡ true → (a ≡ true) × (b ≡ true)
 both {a} {b} e = (and-left a b e, and-right a b e)
+
+-- all of four, and of seven, in their order
+pub four : {a b c d : Bool} → (a && b && c && d) ≡ true → (a ≡ true) × (b ≡ true) × (c ≡ true) × (d ≡ true)
+four e = let p = both e in let q = both (p .0) in let r = both (q .0) in (r .0, r .1, q .1, p .1)
+
+pub seven : {a b c d x y z : Bool} → (a && b && c && d && x && y && z) ≡ true
+    → (a ≡ true) × (b ≡ true) × (c ≡ true) × (d ≡ true) × (x ≡ true) × (y ≡ true) × (z ≡ true)
+seven e =
+    let p = both e in
+    let q = both (p .0) in
+    let r = both (q .0) in
+    let s = four (r .0) in
+    (s .0, s .1, s .2, s .3, r .1, q .1, p .1)
 
 pub and-false-left : (a b : Bool) → a ≡ false → (a && b) ≡ false
 and-false-left a b p = rw p

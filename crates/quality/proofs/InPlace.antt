@@ -2,7 +2,7 @@
 --     filled-more      one more turn of a loop that fills the column (`Done`)
 --     moved-more       one more turn of a loop over slots 1 to 7 (`Moved`)
 -- Assumes nothing.
-use mathlib.Core.Path.{_≡_, sym, subst}
+use mathlib.Core.Path.{_≡_}
 use mathlib.Core.List.{List}
 use Prim.Native.Nat.{ℕ, _+_, _-_, _<_}
 use native.Mathlib.Omega.{arith}

@@ -16,9 +16,9 @@ use borrow.Author.Tests.{leb-true, le-leb, eqb-true, ne-eqb}
 use lib.Dec.{eqb, leb, lit<, lit≤}
 use lib.IntN.{ℤ, pos, negℤ, natAbs, _+ℤ_}
 use lib.Signed.{ltZ, shrZ}
-use lib.ListN.{length, getD, set, length-set}
+use lib.ListN.{getD, set, length-set}
 use Rattle.laws.specs.Table.{table}
-use Rattle.laws.proofs.Bools.{Known, is-true, is-false, known, both, and-left, and-right, or-true-left, or-true-right, or-second, cond-keeps}
+use Rattle.laws.proofs.Bools.{Known, is-true, is-false, known, four, and-left, and-right, or-true-left, or-true-right, or-second, cond-keeps}
 use Rattle.laws.proofs.Tables.{length-table, getD-table, set-each}
 use Rattle.laws.proofs.Offset.{size-negative, size-middle}
 use Rattle.quality.specs.Cell.{Cell, missing, isPercent, isHumidity, discarded, flagged, slot, none}
@@ -40,10 +40,8 @@ module _ {states flags e : ℕ} {c : Cell} where
   pub cell-parts : CellWithin states flags e c → CellParts states flags e c
   unfolding isCell
   cell-parts w =
-      let p = both (w .test) in
-      let q = both (p .0) in
-      let r = both (q .0) in
-      record { state = r .0; flag = leb-true _ _ (r .1); size = leb-true _ _ (q .1); empty = p .1 }
+      let p = four (w .test) in
+      record { state = p .0; flag = leb-true _ _ (p .1); size = leb-true _ _ (p .2); empty = p .3 }
 
   pub cell-whole : CellParts states flags e c → CellWithin states flags e c
   unfolding isCell

@@ -1,7 +1,7 @@
 -- "Limits min2, min1, max1, max2", by element, climate row and season (document 01, "Settling a station", step 1).
 -- Assumes nothing.
 use mathlib.Core.Bool.{Bool, cond, _&&_}
-use mathlib.Core.List.{List, [], _∷_}
+use mathlib.Core.List.{[], _∷_}
 use Prim.Native.Nat.{ℕ}
 use lib.Dec.{eqb, leb}
 use lib.IntN.{ℤ, pos, negℤ}

@@ -2,14 +2,13 @@
 --     at-once
 -- Assumes nothing.
 use mathlib.Core.Path.{_≡_, refl, sym, _∙_, ap, ap₂, subst}
-use mathlib.Core.Bool.{true, false}
+use mathlib.Core.Bool.{true}
 use mathlib.Core.List.{List, [], _∷_, map}
-use Prim.Native.Nat.{ℕ, _<_}
-use lib.ListN.{length}
+use Prim.Native.Nat.{ℕ}
 use Rattle.laws.proofs.Bools.{Known, is-true, is-false, known, cond-true}
 use Rattle.store_layout.specs.Model.{Station, Store, stationAt}
 use Rattle.store_layout.specs.Valid.{isUnderWay, ValidStore}
-use Rattle.store_layout.specs.Updates.{withChecked, withCopies, withBlock, withStation}
+use Rattle.store_layout.specs.Updates.{withBlock, withStation}
 use Rattle.store_layout.specs.Layout.{encode, decode}
 use Rattle.store_layout.specs.Framed.{Bytes}
 use Rattle.store_layout.specs.Sound.{sound}
@@ -20,9 +19,9 @@ use Rattle.store_layout.proofs.Models.{with-same, with-with, with-itself}
 use Rattle.store_layout.proofs.Indices.{Found, found, numbers-with}
 use Rattle.rules.specs.Calls as calls
 use Rattle.rules.specs.Calls.{Call, settle, begin, Answer, refused, accepted, Request, settling, beginning, stepping, named, ask}
-use Rattle.rules.specs.Rules.{Date, makes, copyStep, stepDone, settledStation, begunStation, portion, rule}
-use Rattle.rules.specs.Reaction.{Reaction, dateOf, placed, onStation, at}
-use Rattle.rules.specs.Step.{Outcome, unchanged, outcomeIn, asked, step}
+use Rattle.rules.specs.Rules.{makes, copyStep, stepDone, settledStation, begunStation, portion, rule}
+use Rattle.rules.specs.Reaction.{dateOf}
+use Rattle.rules.specs.Step.{Outcome, unchanged, step}
 use Rattle.rules.specs.Runs.{Logged, log, left}
 use Rattle.rules.specs.Portions.{portions, fiveOf, AtOnce}
 use Rattle.rules.proofs.Kept.{Kept, kept-on, valid-kept}

@@ -3,7 +3,7 @@
 -- Assumes nothing.
 use mathlib.Core.Path.{_≡_, refl}
 use mathlib.Core.Bool.{Bool, true, false}
-use mathlib.Core.List.{List, [], _∷_}
+use mathlib.Core.List.{[], _∷_}
 use mathlib.Core.Option.{Option, none, some}
 use Prim.Native.Nat.{ℕ}
 use lib.IntN.{ℤ, pos}
@@ -16,7 +16,6 @@ use Rattle.daily.specs.Line.{dayLine}
 use Rattle.daily.specs.Rain
 use Rattle.store_layout.specs.Model.{Station}
 use Rattle.store_layout.specs.Updates.{withSlot, withChecked, withCopies, withBlock}
-use Rattle.synop_contents.specs.declared.Indicators.{Indicators}
 use Rattle.rules.specs.Rules
 use Rattle.rules.specs.Rules.{filed, settledStation}
 use Rattle.rules.proofs.Isolation.{newStation, date}

@@ -399,7 +399,7 @@ unfolding asked replies repliesTo table isDate daysIn nextDay slotOf withSlot wi
     Steps.rangeCell Steps.dewCell Steps.windCell Steps.maximumBelowMinimum Steps.spikeCell Steps.timeCell Steps.fillCell Steps.between Steps.rangeColumn Steps.dewColumn Steps.windColumn Steps.suspectAt
     Settled.range Settled.internal Settled.timeOf Settled.time Settled.fillOf Settled.fill
     Vapour.term Vapour.sumTo Vapour.Z Vapour.entry Vapour.pressure
-    Counts.inColumn Counts.inSheet Extremes.earliest Extremes.warmest Extremes.coldest Line.dayLine sum average vapourColumn Rain.half Rain.rainTotal
+    Counts.inColumn Counts.inSheet Extremes.onTies Extremes.warmest Extremes.coldest Line.dayLine sum average vapourColumn Rain.half Rain.rainTotal
 replies-computed = refl
 
 -- ---- the two runs

@@ -52,7 +52,7 @@ line =
       cloud = absent;
       vapour = mended (pos 2448);
       rain = option.none;
-      warmest = option.some 0;
+      warmest = option.some 7;
       coldest = option.some 0;
       read = 15;
       corrected = 0;
@@ -66,5 +66,5 @@ unfolding table withSlot withChecked withCopies withBlock
     Steps.rangeCell Steps.dewCell Steps.windCell Steps.maximumBelowMinimum Steps.spikeCell Steps.timeCell Steps.fillCell Steps.between Steps.rangeColumn Steps.dewColumn Steps.windColumn Steps.suspectAt
     Settled.range Settled.internal Settled.timeOf Settled.time Settled.fillOf Settled.fill
     Vapour.term Vapour.sumTo Vapour.Z Vapour.entry Vapour.pressure
-    Counts.inColumn Counts.inSheet Extremes.earliest Extremes.warmest Extremes.coldest Line.dayLine sum average vapourColumn Rain.half Rain.rainTotal
+    Counts.inColumn Counts.inSheet Extremes.onTies Extremes.warmest Extremes.coldest Line.dayLine sum average vapourColumn Rain.half Rain.rainTotal
 humid-day = refl

@@ -7,12 +7,12 @@
 use mathlib.Core.Path.{_≡_, refl, sym, _∙_, ap, ap₂, subst}
 use mathlib.Core.Bool.{Bool, true, false, cond, _&&_, false≢true}
 use mathlib.Core.List.{List, [], _∷_, map}
-use Prim.Native.Nat.{ℕ, zero, suc, _+_, _≤_, _<_}
+use Prim.Native.Nat.{ℕ, zero, suc, _+_, _<_}
 use native.Mathlib.Omega.{arith}
 use borrow.Author.Tests.{le-leb, lt-leb, eq-eqb}
-use lib.Dec.{leb, ltb, eqb}
-use lib.ListN.{length, getD, set}
-use Rattle.laws.proofs.Bools.{Known, is-true, is-false, known, cond-true, cond-false, cond-keeps}
+use lib.Dec.{ltb, eqb}
+use lib.ListN.{getD, set}
+use Rattle.laws.proofs.Bools.{Known, is-true, is-false, known, cond-keeps}
 use Rattle.calendar.specs.Slots.{slotOf}
 use Rattle.calendar.specs.declared.Slot.{Slot}
 use Rattle.calendar.specs.declared.Slot.the-variants.{At, Nothing}
@@ -22,7 +22,7 @@ use Rattle.quality.specs.Settled.{settled, oneStep}
 use Rattle.quality.specs.declared.head.SlotHead.{SlotHead}
 use Rattle.quality.specs.declared.step.Step.{Step}
 use Rattle.quality.specs.declared.step.Step.the-variants.{Fill}
-use Rattle.store_layout.specs.Model.{Station, Store, unfiled, headOf, stationAt}
+use Rattle.store_layout.specs.Model.{Station, unfiled, headOf}
 use Rattle.store_layout.specs.Valid.{isUnderWay}
 use Rattle.store_layout.specs.Layout.{decode}
 use Rattle.store_layout.specs.Framed.{Bytes}
@@ -35,12 +35,12 @@ use Rattle.store_layout.specs.Updates.{withSlot, withChecked, withCopies, withB
 use Rattle.synop_codes.specs.Value.{Value}
 use Rattle.synop_contents.specs.declared.Indicators.{Indicators}
 use Rattle.rules.specs.Calls as calls
-use Rattle.rules.specs.Calls.{Call, begin, Answer, refused, accepted, isAccepted, Request, takeNil, take, settling, beginning, stepping, giveCell, giveDay, Ask, unnamed, named, denied, ask}
-use Rattle.rules.specs.Rules.{Date, Effect, keeps, makes, filedHead, reported, filed, fileAt, nilIn, fileIn, directions, copies, withMark, withCopiesMark, copyStep, stepDone, begunStation, due, onward, goneOn, portion, rule}
+use Rattle.rules.specs.Calls.{Call, begin, refused, accepted, isAccepted, Request, takeNil, take, settling, beginning, stepping, giveCell, giveDay, Ask, unnamed, named, denied, ask}
+use Rattle.rules.specs.Rules.{Date, Effect, filedHead, reported, filed, fileAt, nilIn, fileIn, directions, copies, withMark, withCopiesMark, copyStep, stepDone, begunStation, due, onward, goneOn, portion, rule}
 use Rattle.rules.specs.Step.{Outcome, step}
 use Rattle.rules.specs.Runs.{Logged, log, left, asks, names, namingLog}
 use Rattle.rules.specs.Reaction.{dateOf}
-use Rattle.rules.specs.Portions.{isRestart, isStepping, isReport, ofStation, granted, count, some, undisturbed, stationFor, stationIn, Ends, InPortions}
+use Rattle.rules.specs.Portions.{isRestart, isStepping, isReport, ofStation, granted, count, some, undisturbed, stationFor, stationIn, InPortions}
 use Rattle.rules.proofs.Kept.{AllLawful, doneBy}
 use Rattle.rules.proofs.Settling.{copies-begun}
 use Rattle.rules.proofs.Holding.{HoldsStation, answerOf, stationOf, answer-own, station-held, holds-own, holds-other}

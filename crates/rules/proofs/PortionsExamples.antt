@@ -8,7 +8,7 @@ use mathlib.Core.Bool.{Bool, true, false, cond}
 use mathlib.Core.List.{List, [], _∷_}
 use Prim.Native.Nat.{ℕ}
 use Rattle.laws.specs.Table.{table}
-use Rattle.calendar.specs.Dates.{isDate, daysIn, nextDay}
+use Rattle.calendar.specs.Dates.{daysIn, nextDay}
 use Rattle.calendar.specs.Slots.{slotOf}
 use Rattle.store_layout.specs.Model.{Station}
 use Rattle.store_layout.specs.Updates.{withSlot, withChecked, withCopies, withBlock}
@@ -18,7 +18,7 @@ use Rattle.rules.specs.Calls.{Call, settle, begin, day, accepted, Reques
 use Rattle.rules.specs.Rules
 use Rattle.rules.specs.Rules.{Date, filed, begunStation}
 use Rattle.rules.specs.Step.{step}
-use Rattle.rules.specs.Runs.{Logged, log, left, naming, namingLog}
+use Rattle.rules.specs.Runs.{log, left, namingLog}
 use Rattle.rules.specs.Portions.{isStepping, isReport, granted, count, some, undisturbed, stationIn, Ends}
 use Rattle.rules.proofs.Naming.{Picks, none, keep, pass, picked}
 use Rattle.rules.proofs.Kept.{AllLawful, doneBy}
@@ -28,7 +28,7 @@ use Rattle.rules.proofs.Requests.{all-lawful}
 use Rattle.rules.proofs.Reports.{report-bounds}
 use Rattle.rules.proofs.Isolation.{newStation, date, holds-opened}
 use Rattle.rules.proofs.InPortions.{count-naming, some-naming, begun-held, in-portions}
-use Rattle.rules.proofs.Examples.{indicators, values, sent, whole, nil, neighbour, next, of-whole, of-nil, of-neighbour, asks-whole, asks-nil, asks-neighbour, storeA, opens-A, has-A}
+use Rattle.rules.proofs.Examples.{indicators, values, whole, nil, neighbour, next, of-whole, of-nil, of-neighbour, asks-whole, asks-nil, asks-neighbour, storeA, opens-A, has-A}
 
 lawful : AllLawful
 lawful = all-lawful report-bounds

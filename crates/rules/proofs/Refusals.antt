@@ -6,7 +6,7 @@ use Prim.Native.Nat.{ℕ}
 use native.Mathlib.Omega.{arith}
 use Rattle.laws.proofs.Bools.{cond-keeps}
 use Rattle.store_layout.specs.Form.{ours}
-use Rattle.rules.specs.Calls.{refused, accepted, ask}
+use Rattle.rules.specs.Calls.{refused, ask}
 use Rattle.rules.specs.Reaction.{Reaction, stays, becomes, reaction}
 use Rattle.rules.specs.Step.{Outcome, outcomeIn, stepIn, step}
 use Rattle.rules.specs.Refusals.{RefusalsKeep}

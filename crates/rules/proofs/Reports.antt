@@ -23,7 +23,7 @@ use Rattle.synop_checks.specs.Bytes.{check1}
 use Rattle.synop_checks.specs.Refusal.{refusal}
 use Rattle.synop.specs.Report.{Report, read, report}
 use Rattle.synop.proofs.ReportRanges.{InRange, report-in-range}
-use Rattle.rules.proofs.Requests.{Fits, ReportBounds}
+use Rattle.rules.proofs.Requests.{ReportBounds}
 
 -- dd, as a test
 direction : (d : ℕ) → Direction d → isDirection d ≡ true

@@ -29,7 +29,7 @@ use Rattle.synop_contents.specs.declared.Indicators.{Indicators}
 use Rattle.synop_contents.specs.declared.Identification.{Identification}
 use Rattle.rules.specs.Calls.{Call, file, settle, begin, step, cell, day, Answer, refused, Request, takeNil, take, settling, beginning, stepping, giveCell, giveDay, Ask, unnamed, named, denied, ask, askFile, deny}
 use Rattle.rules.specs.Dry.{isDry, dryDuration, filedDuration, filedValues}
-use Rattle.rules.specs.Rules.{Date, keeps, makes, rawCell, filedHead, filedCells, reported, filed, fileAt, nilIn, fileIn, settledStation, begunStation, portion, rule}
+use Rattle.rules.specs.Rules.{keeps, makes, rawCell, filedHead, filedCells, reported, filed, fileAt, nilIn, fileIn, settledStation, begunStation, portion, rule}
 use Rattle.rules.proofs.Kept.{Kept, kept-block, Lawful, AllLawful}
 use Rattle.rules.proofs.Settling.{kept-settled, kept-begun, kept-portion}
 

@@ -4,7 +4,7 @@
 --     kept-copy, kept-step, kept-copies, kept-mark, kept-settled, kept-begun, kept-portion
 -- Assumes nothing.
 use mathlib.Core.Path.{_≡_, refl, sym, _∙_, ap}
-use mathlib.Core.Bool.{Bool, true, false, _||_}
+use mathlib.Core.Bool.{true, _||_}
 use mathlib.Core.List.{List, [], _∷_, map}
 use Prim.Native.Nat.{ℕ, suc, _≤_}
 use native.Mathlib.Omega.{arith}
@@ -19,7 +19,7 @@ use Rattle.quality.specs.declared.head.SlotHead.{SlotHead}
 use Rattle.quality.specs.declared.step.Step.{Step}
 use Rattle.quality.specs.declared.step.Step.the-variants.{Range, Internal, Time, Fill}
 use Rattle.quality.proofs.Validity.{raw-sheet-valid, range-keeps, internal-keeps, time-keeps, fill-keeps}
-use Rattle.store_layout.specs.Model.{Block, Station}
+use Rattle.store_layout.specs.Model.{Station}
 use Rattle.store_layout.specs.Valid.{isUnderWay, isCopy, ValidHead, ValidStation}
 use Rattle.store_layout.specs.Updates.{withChecked, withCopy, withCopies, withBlock}
 use Rattle.store_layout.proofs.Validity.{head-parts, entry-parts, valid-marked, valid-with-checked, valid-with-copies}

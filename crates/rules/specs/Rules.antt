@@ -1,9 +1,9 @@
 -- What a request does to a station: a function of the date D, the request and the station alone. "An answer to S may depend on D, S's row, the
 -- call itself and S's earlier calls, nothing else."
 -- Assumes nothing.
-use mathlib.Core.Bool.{Bool, cond, _&&_, _||_}
+use mathlib.Core.Bool.{cond, _&&_, _||_}
 use mathlib.Core.List.{List, map}
-use Prim.Native.Nat.{ℕ, suc, _+_, _-_}
+use Prim.Native.Nat.{ℕ, suc, _+_}
 use lib.Dec.{leb, ltb, eqb}
 use lib.IntN.{pos}
 use Rattle.calendar.specs.Slots.{slotOf}

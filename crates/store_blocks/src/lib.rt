@@ -9,9 +9,11 @@ use store_fields::is_cell;
 use store_fields::is_head;
 use store_numbers::at::CELL_LENGTH;
 use store_numbers::at::CHECKED_FROM;
+use store_numbers::at::FLAG_IN;
 use store_numbers::at::HEAD_LENGTH;
 use store_numbers::at::RAW_FROM;
 use store_numbers::at::SLOT_LENGTH;
+use store_numbers::at::VALUE_IN;
 use store_numbers::head::head_at;
 use store_numbers::read::word_at;
 
@@ -43,8 +45,8 @@ fn is_cell_at(store: &[u8], at: usize, element: usize, states: u8, flags: u8) ->
     is_cell(
         element,
         store[at],
-        store[at + 1],
-        word_at(store, at + 2),
+        store[at + FLAG_IN],
+        word_at(store, at + VALUE_IN),
         states,
         flags,
     )

@@ -10,10 +10,10 @@ use mathlib.Core.List.{List}
 use Prim.Native.Nat.{ℕ, suc, _-_, _<_, _≤_}
 use native.Mathlib.Omega.{arith}
 use borrow.Author.Tests.{leb-true, ltb-true, eqb-true, eq-eqb}
-use lib.Dec.{leb, ltb, eqb, lit≤}
+use lib.Dec.{leb, ltb, lit≤}
 use lib.ListN.{length, getD}
 use Rattle.laws.specs.All.{all}
-use Rattle.laws.proofs.Bools.{both, and-true, and-left}
+use Rattle.laws.proofs.Bools.{both, seven, and-true, and-left}
 use Rattle.laws.proofs.Tables.{all-at, length-table, getD-table}
 use Rattle.calendar.specs.Dates.{isDate}
 use Rattle.store_layout.specs.Model.{emptyBlock, emptyStation, stationAt}
@@ -55,23 +55,18 @@ module _ (year month day : ℕ) (numbers rows : List ℕ) where
   pub openable-parts : (size : ℕ) → openable size year month day numbers rows ≡ true → Openable size
   unfolding openableIn canOpen entryTest
   openable-parts size e =
-      let g = both e in
-      let f = both (g .0) in
-      let d = both (f .0) in
-      let c = both (d .0) in
-      let b = both (c .0) in
-      let a = both (b .0) in
+      let p = seven e in
       record {
-        some = leb-true _ _ (a .0);
-        few = leb-true _ _ (a .1);
-        paired = eqb-true _ _ (b .1);
-        long = eqb-true _ _ (g .1);
-        date = c .1;
-        least = λ i l. entry-parts (d .1) i l .least;
-        most = λ i l. entry-parts (d .1) i l .most;
-        row = λ i l. entry-parts (d .1) i l .row;
+        some = leb-true _ _ (p .0);
+        few = leb-true _ _ (p .1);
+        paired = eqb-true _ _ (p .2);
+        long = eqb-true _ _ (p .6);
+        date = p .3;
+        least = λ i l. entry-parts (p .4) i l .least;
+        most = λ i l. entry-parts (p .4) i l .most;
+        row = λ i l. entry-parts (p .4) i l .row;
         ascending = λ i l.
-            ltb-true _ _ (all-at (λ j. ltb (getD numbers j 0) (getD numbers (suc j) 0)) (length numbers - 1) (f .1) i (omega arith));
+            ltb-true _ _ (all-at (λ j. ltb (getD numbers j 0) (getD numbers (suc j) 0)) (length numbers - 1) (p .5) i (omega arith));
       }
 
   pub can-open : (form : Form) (size : ℕ) → openableIn form size year month day numbers rows ≡ true → canOpen year month day numbers rows ≡ true

@@ -12,7 +12,7 @@ use Prim.Native.Nat.{ℕ, suc, _-_, _<_}
 use native.Mathlib.Omega.{arith}
 use borrow.Author.Tests.{leb-true, le-leb, ltb-true, lt-ltb, eqb-true, eq-eqb}
 use Rattle.laws.specs.All.{all}
-use Rattle.laws.proofs.Bools.{both, and-true}
+use Rattle.laws.proofs.Bools.{both, seven, and-true}
 use Rattle.laws.proofs.Tables.{all-at, all-from}
 use Rattle.calendar.specs.Dates.{isDate}
 use Rattle.store_layout.specs.Model.{Station, stationAt}
@@ -34,24 +34,19 @@ module _ (s : List ℕ) where
   unfolding soundHeader
   header-parts e =
       let h = both e in
-      let g = both (h .0) in
-      let f = both (g .0) in
-      let d = both (f .0) in
-      let c = both (d .0) in
-      let b = both (c .0) in
-      let a = both (b .0) in
+      let p = seven (h .0) in
       record {
         framed =
             record {
-              some = leb-true _ _ (a .0);
-              few = leb-true _ _ (a .1);
-              long = eqb-true _ _ (b .1);
-              listOffset = eqb-true _ _ (c .1);
-              blockOffset = eqb-true _ _ (d .1);
-              blockLong = eqb-true _ _ (f .1);
+              some = leb-true _ _ (p .0);
+              few = leb-true _ _ (p .1);
+              long = eqb-true _ _ (p .2);
+              listOffset = eqb-true _ _ (p .3);
+              blockOffset = eqb-true _ _ (p .4);
+              blockLong = eqb-true _ _ (p .5);
               last = eqb-true _ _ (h .1);
             };
-        date = g .1;
+        date = p .6;
       }
 
   pub header-whole : Header → soundHeader s ≡ true

@@ -9,16 +9,16 @@
 --     valid-with-station     a station of a store replaced by one of the same number
 -- Assumes nothing.
 use mathlib.Core.Path.{_≡_, refl, sym, _∙_, ap, subst}
-use mathlib.Core.Bool.{true, cond, _||_}
-use mathlib.Core.List.{List, [], map}
+use mathlib.Core.Bool.{true, _||_}
+use mathlib.Core.List.{List, []}
 use Prim.Native.Nat.{ℕ, suc, _<_, _≤_}
 use native.Mathlib.Decide.{ℕ-discrete}
 use native.Mathlib.Omega.{arith}
-use borrow.Author.Tests.{leb-true, le-leb, eqb-true}
+use borrow.Author.Tests.{leb-true, le-leb}
 use lib.Dec.{lit≤, eqb}
-use lib.ListN.{length, getD, set, length-set, length-map}
+use lib.ListN.{length, getD, length-set, length-map}
 use Rattle.laws.specs.Table.{table}
-use Rattle.laws.proofs.Bools.{both}
+use Rattle.laws.proofs.Bools.{four, seven}
 use Rattle.laws.proofs.Maps.{map-at}
 use Rattle.laws.proofs.Tables.{length-table, getD-table, set-each}
 use Rattle.quality.specs.Cell.{Cell, none, slot}
@@ -44,21 +44,8 @@ pub record HeadParts (settled : ℕ) (h : SlotHead) : Type 0 where
 pub head-parts : {settled : ℕ} (h : SlotHead) → ValidHead settled h → HeadParts settled h
 unfolding isHead
 head-parts h v =
-    let p = both v in
-    let q = both (p .0) in
-    let r = both (q .0) in
-    let u = both (r .0) in
-    let w = both (u .0) in
-    let x = both (w .0) in
-    record {
-      filed = leb-true _ _ (x .0);
-      ir = leb-true _ _ (x .1);
-      tr = leb-true _ _ (w .1);
-      dd = u .1;
-      rank = leb-true _ _ (r .1);
-      unfiled = q .1;
-      copy = p .1;
-    }
+    let p = seven v in
+    record { filed = leb-true _ _ (p .0); ir = leb-true _ _ (p .1); tr = leb-true _ _ (p .2); dd = p .3; rank = leb-true _ _ (p .4); unfiled = p .5; copy = p .6 }
 
 pub head-whole : {settled : ℕ} (h : SlotHead) → HeadParts settled h → ValidHead settled h
 unfolding isHead
@@ -76,10 +63,8 @@ module _ {number row settled : ℕ} where
   pub entry-parts : isEntry number row settled ≡ true → EntryParts number row settled
   unfolding isEntry
   entry-parts e =
-      let p = both e in
-      let q = both (p .0) in
-      let r = both (q .0) in
-      record { least = leb-true _ _ (r .0); most = leb-true _ _ (r .1); row-most = leb-true _ _ (q .1); settled-most = leb-true _ _ (p .1) }
+      let p = four e in
+      record { least = leb-true _ _ (p .0); most = leb-true _ _ (p .1); row-most = leb-true _ _ (p .2); settled-most = leb-true _ _ (p .3) }
 
   pub entry-whole : EntryParts number row settled → isEntry number row settled ≡ true
   unfolding isEntry

@@ -24,19 +24,15 @@ pub const DAY_AT: usize = 12;
 
 pub const ZERO_AT: usize = 14;
 
-// A station's entry, and in it its number, climate row and settled number.
+// A station's entry, which begins with its number, and in it its climate row and settled number.
 pub const ENTRY_LENGTH: usize = 8;
-
-pub const NUMBER_IN: usize = 0;
 
 pub const ROW_IN: usize = 4;
 
 pub const SETTLED_IN: usize = 6;
 
-// A slot head, and in it filed, iR, tR, dd, the rank and the copy of dd.
+// A slot head, which begins with filed, and in it iR, tR, dd, the rank and the copy of dd.
 pub const HEAD_LENGTH: usize = 6;
-
-pub const FILED_IN: usize = 0;
 
 pub const IR_IN: usize = 1;
 
@@ -48,10 +44,8 @@ pub const RANK_IN: usize = 4;
 
 pub const COPY_IN: usize = 5;
 
-// A cell, and in it its state, flag and value.
+// A cell, which begins with its state, and in it its flag and value.
 pub const CELL_LENGTH: usize = 4;
-
-pub const STATE_IN: usize = 0;
 
 pub const FLAG_IN: usize = 1;
 

@@ -7,13 +7,11 @@ use Prim.Native.Nat.{ℕ, _<_}
 use native.Mathlib.Omega.{arith}
 use Rattle.laws.proofs.Bools.{is-true, is-false, known, cond-true, cond-false}
 use Rattle.store_layout.specs.Layout.{word, countAt, decode}
-use Rattle.store_layout.specs.Framed.{Framed}
 use Rattle.store_layout.specs.Index.{Index, nowhere, index, indexIn, numbers}
 use Rattle.store_layout.specs.Sound.{sound}
 use Rattle.store_layout.proofs.Indices.{found}
-use Rattle.store_layout.proofs.Soundness.{sound-framed}
 use Rattle.store_layout.proofs.Stores.{stations-count}
-use Rattle.store_soundness.specs.declared.find.Located.the-variants.{Unsound, At}
+use Rattle.store_soundness.specs.declared.find.Located.the-variants.{Unsound}
 use Rattle.store_soundness.specs.Located.{placed, located}
 
 -- the code's answer tells the index
@@ -57,10 +55,3 @@ module _ (s : List ℕ) (x : ℕ) where
             }
         | is-false f ↦ absurd (not-placed p (sym (cond-false (sound s) (placed (indexIn (numbers (decode s)) x)) Unsound f) ∙ e))
       ]
-
-  -- a station's index: the store is framed, and the index one of its stations'
-  pub located-framed : (i : ℕ) → located s x ≡ At i → Framed s
-  located-framed i e = sound-framed s (searched (index i) e .sound-store)
-
-  pub located-below : (i : ℕ) → located s x ≡ At i → i < word s countAt
-  located-below i e = within i (searched (index i) e .answer)

@@ -8,7 +8,7 @@ use Rattle.synop_codes.specs.Value as codes
 use Rattle.synop_text.specs.Kinds.{tokens}
 use Rattle.synop_text.specs.declared.Group.{Group}
 use Rattle.synop_order.specs.Places.{begun, isNil, final, complete}
-use Rattle.synop_checks.specs.Refusal.{ofGroups, refusal}
+use Rattle.synop_checks.specs.Refusal.{refusal}
 use Rattle.synop_order.specs.declared.Place.{Place}
 use Rattle.synop_order.specs.declared.Place.the-variants.{Start}
 use Rattle.synop_contents.specs.Parts as parts

@@ -1,9 +1,9 @@
 -- How the groups of a text go on from a place: one blank, one character or one whole group further.
 -- Assumes nothing.
 use mathlib.Core.Path.{_≡_, refl, sym, _∙_, ap, subst}
-use mathlib.Core.Bool.{Bool, true, false, cond}
+use mathlib.Core.Bool.{Bool, true, false}
 use mathlib.Core.List.{List, [], _∷_, _++_, map}
-use Prim.Native.Nat.{ℕ, zero, suc, _+_, _-_, _<_, _≤_}
+use Prim.Native.Nat.{ℕ, suc, _+_, _-_, _<_, _≤_}
 use native.Mathlib.Numerals.{add-one}
 use mathlib.Core.Logic.{⊎-elim}
 use native.Mathlib.Nat.{sub-self, eq-or-lt-of-le, lt-of-le-of-lt}
@@ -11,7 +11,7 @@ use native.Mathlib.Omega.{arith}
 use lib.ListN.{length, take, drop, getD, length-drop, drop-of-length-le}
 use lib.Seq.{drop-cons, take-suc, getD-drop, length-take-le}
 use Rattle.synop_text.specs.Characters.{parts}
-use Rattle.synop_text.specs.Groups.{cut, closed, groups}
+use Rattle.synop_text.specs.Groups.{cut, groups}
 use Rattle.synop_text.specs.Walk.{part, Skipped, Ended, Bounds, Kind}
 use Rattle.synop_text.specs.Kinds.{kindOf, tokens}
 use Rattle.synop_text.specs.declared.Group.{Group}

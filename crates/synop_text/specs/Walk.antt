@@ -1,14 +1,13 @@
 -- What the cursor's answers say of the groups: "A cursor walks the groups, one step a group".
 -- Assumes nothing.
 use mathlib.Core.Path.{_≡_}
-use mathlib.Core.Bool.{Bool, true, false}
+use mathlib.Core.Bool.{true, false}
 use mathlib.Core.List.{List, [], _∷_}
 use Prim.Native.Nat.{ℕ, _-_, _<_, _≤_}
 use lib.ListN.{length, take, drop, getD}
 use Rattle.synop_text.specs.Characters.{parts}
 use Rattle.synop_text.specs.Groups.{groups, cut}
 use Rattle.synop_text.specs.Kinds.{tokens}
-use Rattle.synop_text.specs.declared.Cursor.{Cursor}
 use Rattle.synop_text.specs.declared.Group as declared
 use Rattle.synop_text.specs.declared.Step as step
 use Rattle.synop_text.specs.declared.Token as token

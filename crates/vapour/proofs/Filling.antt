@@ -7,11 +7,10 @@ use Prim.Native.Nat.{ℕ, _≤_, _<_}
 use native.Mathlib.Decide.{ℕ-discrete}
 use native.Mathlib.Omega.{arith}
 use lib.IntN.{subℕ}
-use lib.ListN.{length, getD}
+use lib.ListN.{length}
 use Rattle.laws.proofs.Fill.{Done}
 use Rattle.vapour.specs.Vapour.{places, entry, Entries}
 use Rattle.vapour.specs.Generator.{Fills, Generated, AsFilled}
-use Rattle.vapour.specs.declared.answer.Filling.{Filling}
 use Rattle.vapour.specs.declared.answer.Filling.the-variants.{Filled, LengthNeeded}
 
 module _ {A : Type 0} {full : A} {needs : ℕ → A} where

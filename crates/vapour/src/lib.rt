@@ -1,9 +1,6 @@
-// The vapour pressure at a dew point, looked up in a table (`table`), and a generator of the table's numbers (`generator`)
-// by the recurrence that they come from (`recurrence`). A dew point is given in tenths of a degree, in offset binary
-// (v + 32768). What the table looks like is known here alone.
+// The vapour pressure at a dew point, looked up in a table (`table`). A dew point is given in tenths of a degree, in offset binary
+// (v + 32768). What the table looks like is known here alone. The crate `vapour_generator` computes the table's numbers.
 mod answer;
-pub mod generator;
-mod recurrence;
 mod table;
 
 pub use answer::Filling;

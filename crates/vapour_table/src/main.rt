@@ -4,7 +4,7 @@ use libc::STDERR_FILENO;
 use libc::STDOUT_FILENO;
 use vapour::Filling;
 use vapour::PLACES;
-use vapour::generator::fill;
+use vapour_generator::fill;
 
 // A number in decimal, on a line of its own: whether it was written.
 fn print_line(n: u16) -> bool {

@@ -81,6 +81,22 @@ impl Call {
 }
 
 impl Answer {
+    /// A day line's parts in order, `-` where absent; a mean, as the caller writes it, by whether it is mended and its
+    /// eightfold sum.
+    pub fn line(&self, mean: impl Fn(bool, f64) -> String) -> String {
+        let numbers = self.numbers;
+        let or_absent = |there: bool, number: i32| if there { number.to_string() } else { "-".to_string() };
+        let mean = |i: usize| match numbers[i] {
+            0 => "-".to_string(),
+            kind => mean(kind == 2, f64::from_bits(self.means[i]) * 8.0),
+        };
+        let mut parts: Vec<String> = (0..6).map(mean).collect();
+        parts.push(or_absent(numbers[6] == 1, numbers[7]));
+        parts.extend([numbers[8], numbers[9]].map(|slot| or_absent(slot >= 0, slot)));
+        parts.extend(numbers[10..].iter().map(i32::to_string));
+        parts.join(" ")
+    }
+
     /// What this call gives, in words, but for a slice.
     pub fn shown(&self, call: &Call) -> String {
         let Answer { number, cell, means, numbers, counts, .. } = self;

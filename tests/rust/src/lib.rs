@@ -13,6 +13,8 @@ pub mod reached;
 pub mod reference;
 pub mod script;
 pub mod sweeps;
+pub mod ties;
+pub mod transcript;
 
 #[cfg(feature = "engine")]
 pub mod engine;

@@ -5,6 +5,7 @@ mod dry;
 mod humidity;
 mod portions;
 mod rank;
+mod ties;
 mod vapour;
 
 use crate::calls::{Calls, Reference};
@@ -16,7 +17,7 @@ use std::slice;
 use std::sync::atomic::{AtomicUsize, Ordering};
 
 /// What the mock can do wrong; the first is nothing.
-pub const FAULTS: [&str; 174] = [
+pub const FAULTS: [&str; 200] = [
     "no fault",
     "open leaves the last byte as it was",
     "a refused open writes a byte",
@@ -191,6 +192,32 @@ pub const FAULTS: [&str; 174] = [
     "a copy that is not its slot's dd is unsound",
     "an unfiled slot's copy other than 100 is unsound",
     "settled numbers above 5 are unsound",
+    "the warmest slot is the earliest of equal ones",
+    "the coldest slot is the latest of equal ones",
+    "the warmest slot is the earliest of equal ones, the coldest the latest",
+    "the warmest slot is the second of equal ones",
+    "the warmest slot is the last of equal ones in a row",
+    "the warmest slot is the last of equal ones before a missing T",
+    "slot 8 is the warmest where it is as warm as the warmest",
+    "slot 8 can be the warmest and the coldest",
+    "a mended T gives way to an equal one that was read",
+    "a T that was read gives way to an equal one that is mended",
+    "a T with a flag gives way to an equal one without",
+    "a corrected T is neither the warmest nor the coldest",
+    "a filled T is neither the warmest nor the coldest",
+    "a suspect T is neither the warmest nor the coldest",
+    "slot 0 is neither the warmest nor the coldest",
+    "slot 7 is neither the warmest nor the coldest",
+    "the warmest and the coldest slot are those of the raw T",
+    "a missing T is compared as 0",
+    "below 0 the warmest slot is the earliest of equal ones",
+    "where all T are equal both slots are the earliest",
+    "where all T are equal both slots are the latest",
+    "without any T both slots are 0",
+    "one T alone gives no slot",
+    "a T equal to the one before it is the warmest",
+    "temperatures are compared in fifths of a degree",
+    "temperatures are compared without their signs",
 ];
 
 static FAULT: AtomicUsize = AtomicUsize::new(0);
@@ -405,6 +432,7 @@ unsafe extern "C" fn esfenruk_day(
         humidity::day(store, station, means, numbers);
         vapour::day(store, station, means, numbers);
         dry::day(store, station, numbers);
+        ties::day(store, station, numbers);
     }
     number
 }

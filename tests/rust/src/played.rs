@@ -98,27 +98,12 @@ fn shown(call: &Call, answer: &Answer) -> String {
         _ if *number != 0 => format!("refused {number}"),
         Call::Cell { .. } => format!("cell {} {} {}", cell[0], cell[1], cell[2]),
         Call::Bulletin { .. } => format!("counts {} {}", counts[0], counts[1]),
-        Call::Day { .. } => format!("day {}", day(answer)),
+        Call::Day { .. } => {
+            let mean = |mended, sum| format!("{}:{sum}", if mended { "m" } else { "r" });
+            format!("day {}", answer.line(mean))
+        }
         _ => "ok".to_string(),
     }
-}
-
-fn day(answer: &Answer) -> String {
-    let numbers = answer.numbers;
-    let or_absent = |there: bool, number: i32| if there { number.to_string() } else { "-".to_string() };
-    let mean = |i: usize| {
-        let sum = f64::from_bits(answer.means[i]) * 8.0;
-        match numbers[i] {
-            0 => "-".to_string(),
-            1 => format!("r:{sum}"),
-            _ => format!("m:{sum}"),
-        }
-    };
-    let mut parts: Vec<String> = (0..6).map(mean).collect();
-    parts.push(or_absent(numbers[6] == 1, numbers[7]));
-    parts.extend([numbers[8], numbers[9]].map(|slot| or_absent(slot >= 0, slot)));
-    parts.extend(numbers[10..].iter().map(i32::to_string));
-    parts.join(" ")
 }
 
 /// CRC-32 as zip and Ethernet have it.

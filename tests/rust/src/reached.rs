@@ -4,6 +4,7 @@
 mod dry;
 mod portions;
 mod ranks;
+mod ties;
 
 use crate::generate::stores::Opening;
 use crate::generate::{Answer, Call, Step};
@@ -13,6 +14,7 @@ use crate::reference::layout::{self, field_at, stations_for, store_length, Recor
 use crate::reference::report::{self, groups, is_blank, Observation};
 use crate::reference::store::{self, Cell, D, HUMIDITY, T};
 use crate::reference::{day, values, vapour};
+use std::cmp::Ordering;
 use std::collections::BTreeMap;
 
 /// The rows: the answers of each call, then the rest.
@@ -149,6 +151,27 @@ pub const ROWS: &[(&str, &[u32])] = &[
     // 0 absent, else one more than the slot.
     ("day: warmest", &[0, 1, 2, 3, 4, 5, 6, 7, 8]),
     ("day: coldest", &[0, 1, 2, 3, 4, 5, 6, 7, 8]),
+    // How many there are, where all are equal.
+    ("day: T there, all equal", first(9)),
+    // Of slots 0 to 7; then the first and the last, where there are two or more.
+    ("day: slots that share the warmest T", first(9)),
+    ("day: slots that share the coldest T", first(9)),
+    ("day: first of equal warmest slots", first(7)),
+    ("day: first of equal coldest slots", first(7)),
+    ("day: last of equal warmest slots", first(8).split_at(1).1),
+    ("day: last of equal coldest slots", first(8).split_at(1).1),
+    // Read, corrected, filled: 3 times that of the first, and that of the last.
+    ("day: states of first and last warmest", first(9)),
+    ("day: states of first and last coldest", first(9)),
+    // 0 equal ones alone, 1 another T, 2 a missing one.
+    ("day: between equal warmest slots", first(3)),
+    ("day: between equal coldest slots", first(3)),
+    // Its T: 0 missing, 1 below, 2 equal, 3 above.
+    ("day: slot 8 beside equal warmest ones", first(4)),
+    ("day: slot 8 beside equal coldest ones", first(4)),
+    // 0 below 0, 1 at 0, 2 above.
+    ("day: sign of equal warmest T", first(3)),
+    ("day: sign of equal coldest T", first(3)),
     ("bulletin: bytes", &[0, 1, 16383, 16384, 16385]),
     // 0 by the end, 1 by `=`, in its first or second group.
     ("bulletin: heading cut", &[0, 1]),
@@ -245,6 +268,7 @@ impl Reached {
                 self.day(answer);
                 self.humid_day(*station, store, answer);
                 self.dry_day(*station, store);
+                self.equal_temperatures(*station, store);
                 self.vapour_day(*station, store, answer);
             }
             (Call::Bulletin { text, rank }, number) => {
@@ -503,6 +527,15 @@ fn beside(humidity: i32, v: Cell, other: i32, apart: impl Fn(i32, i32, i32) -> b
     match read(v) {
         Some(v) => apart(humidity, v, other).then_some(2),
         None => v.is_missing().then_some(3),
+    }
+}
+
+/// 0 below, 1 equal, 2 above.
+fn against<A: Ord>(one: A, other: A) -> u32 {
+    match one.cmp(&other) {
+        Ordering::Less => 0,
+        Ordering::Equal => 1,
+        Ordering::Greater => 2,
     }
 }
 

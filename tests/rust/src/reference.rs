@@ -1,6 +1,7 @@
 //! The papers in plain Rust, section by section: document 01's calls on a lent buffer; of document 02, S-1
 //! (`vapour::fill`), which has no buffer of that kind, S-2, a humidity in D's cell, S-3, the ranks of reports, S-4, the
-//! vapour table as whole entries and differences, S-5, dry stations, and S-6, settling in portions.
+//! vapour table as whole entries and differences, S-5, dry stations, S-6, settling in portions, and S-7, the latest of
+//! equal temperatures as the warmest slot.
 //!
 //! Written from the papers alone. Every call on a buffer but open tests the whole of it first, and a refused
 //! call writes nothing.

@@ -4,6 +4,7 @@
 mod dry;
 mod portions;
 mod ranks;
+mod ties;
 
 use crate::generate::stores::{fresh, Edits, Opening};
 use crate::generate::{no_entries, Call, Step};
@@ -18,7 +19,7 @@ type Take<'a> = &'a mut dyn FnMut(Step);
 
 type Sweep = fn(Take);
 
-pub const SWEEPS: [(&str, Sweep); 48] = [
+pub const SWEEPS: [(&str, Sweep); 51] = [
     ("each byte of a store, each value", bytes_of_a_store),
     ("each field of a store, beside where soundness turns", fields_of_a_store),
     ("each cell's state, flag and value together", cells_of_a_store),
@@ -67,6 +68,9 @@ pub const SWEEPS: [(&str, Sweep); 48] = [
     ("three values through time, then fill", portions::time_and_fill),
     ("each copy of dd with each dd through internal alone", portions::internal),
     ("each state and flag through each step alone", portions::states),
+    ("T missing, low or high in each slot", ties::columns),
+    ("the same T in all slots, in each state", ties::flat_days),
+    ("two equal T of each state and flag", ties::pairs),
 ];
 
 const STATION: u32 = 40001;

@@ -1014,6 +1014,95 @@ fn runs_in_portions() {
     }
 }
 
+/// A settled store made by hand, with these as T's checked cells.
+fn with_temperatures(cells: [Cell; 9]) -> Vec<u8> {
+    let mut store = opened(&[1]);
+    store::set_settling(&mut store, 0, Settling::Settled);
+    let mut sheet = [[Cell::MISSING; 9]; 9];
+    for (slot, cell) in cells.into_iter().enumerate() {
+        sheet[slot][store::T] = cell;
+    }
+    store::put_checked(store::block_mut(&mut store, 0), &sheet);
+    store
+}
+
+/// The warmest and the coldest slot.
+fn extremes(store: &[u8]) -> [Option<u8>; 2] {
+    let line = reference::day(store, 1).unwrap();
+    [line.warmest, line.coldest]
+}
+
+/// The same of nine temperatures that were read.
+fn extremes_of(temperatures: [i16; 9]) -> [Option<u8>; 2] {
+    extremes(&with_temperatures(temperatures.map(read_cell)))
+}
+
+/// "Among equal temperatures the warmest slot is now the latest. The coldest slot keeps the earliest." Slot 8 does not count,
+/// be it equal, hotter or colder.
+#[test]
+fn the_warmest_is_the_latest() {
+    for t in [-32767, -101, -1, 0, 1, 103, 32767] {
+        assert_eq!(extremes_of([t; 9]), [Some(7), Some(0)], "{t}");
+    }
+    for last in [-400, -20, 0, 30, 400] {
+        assert_eq!(extremes_of([30, -20, 0, 30, 0, -20, 0, 0, last]), [Some(3), Some(1)], "{last}");
+        assert_eq!(extremes_of([30, 0, -20, -20, 0, 0, 0, 30, last]), [Some(7), Some(2)], "{last}");
+        assert_eq!(extremes_of([-20, 30, 30, 30, 0, 0, 0, -20, last]), [Some(3), Some(0)], "{last}");
+        assert_eq!(extremes_of([-20, 30, 0, 30, 30, 0, 0, 0, last]), [Some(4), Some(0)], "{last}");
+        assert_eq!(extremes_of([-20, 0, 0, 0, 0, 0, 0, 30, last]), [Some(7), Some(0)], "{last}");
+    }
+    // Every two slots that share the highest, or the lowest, T.
+    for (a, b) in (0..8).flat_map(|b| (0..b).map(move |a| (a, b))) {
+        let two = |t: i16| std::array::from_fn(|slot| if slot == a || slot == b { t } else { slot as i16 });
+        assert_eq!(extremes_of(two(50))[0], Some(b as u8), "{a} {b}");
+        assert_eq!(extremes_of(two(-50))[1], Some(a as u8), "{a} {b}");
+    }
+}
+
+/// A T that was corrected or filled is as good as one that was read, whatever the flags; a missing one is none.
+#[test]
+fn ties_of_mended_cells() {
+    let states = (1..=3).flat_map(|a| (1..=3).flat_map(move |b| (0..=4).map(move |flag| (a, b, flag))));
+    for (a, b, flag) in states {
+        for (t, others) in [(100, 99), (-100, -99), (0, -1), (0, 1)] {
+            let mut cells = [read_cell(others); 9];
+            (cells[2], cells[5]) =
+                (Cell { state: a, flag, value: t }, Cell { state: b, flag: 4 - flag, value: t });
+            cells[3] = Cell { flag, ..Cell::MISSING };
+            let right = if t > others { [Some(5), Some(0)] } else { [Some(7), Some(2)] };
+            assert_eq!(extremes(&with_temperatures(cells)), right, "{a} {b} {flag} {t}");
+        }
+    }
+}
+
+/// One T of slots 0 to 7 is both; absent without any.
+#[test]
+fn one_temperature_or_none() {
+    for last in [Cell::MISSING, read_cell(-1), read_cell(0), read_cell(1)] {
+        let mut cells = [Cell::MISSING; 9];
+        cells[8] = last;
+        assert_eq!(extremes(&with_temperatures(cells)), [None, None]);
+        for slot in 0..8 {
+            let mut cells = cells;
+            cells[slot] = read_cell(0);
+            assert_eq!(extremes(&with_temperatures(cells)), [Some(slot as u8); 2], "{slot}");
+        }
+    }
+}
+
+/// Ties that settling makes: slot 4 is corrected to 7.0 °C; slots 1 and 7 are filled; 48.1 °C at slot 7 is discarded.
+#[test]
+fn ties_of_settled_reports() {
+    let turned = ["10070", "10055", "10065", "10070", "11070", "10065", "10060", "10055", "10080"];
+    assert_eq!(temperature(&settled(&turned), 4), Cell { state: 2, flag: 3, value: 70 });
+    assert_eq!(extremes(&settled(&turned)), [Some(4), Some(1)]);
+    let gaps = settled(&["10050", "", "10050", "10040", "10040", "10040", "10050", "", "10050"]);
+    assert_eq!(temperature(&gaps, 7), Cell { state: 3, flag: 0, value: 50 });
+    assert_eq!(extremes(&gaps), [Some(7), Some(3)]);
+    let hot = settled(&["10190", "10190", "10200", "10190", "10190", "10200", "10190", "10481"]);
+    assert_eq!(extremes(&hot), [Some(5), Some(0)]);
+}
+
 #[test]
 fn checks_in_order() {
     let number = |text: &[u8]| report::read(text).err().map_or(0, |refusal| refusal.number());

@@ -3,11 +3,11 @@
 use reading::calls::{Calls, Reference};
 use reading::played::{crc32, play};
 
-/// Those of the states after S-5 and after S-6, of which the first hold in both, and two days worked by hand.
+/// Those of the states after S-5, S-6 and S-7, all as they hold after the last.
 const CALLS: [&str; 3] = [
     include_str!("../data/calls-05.txt"),
     include_str!("../data/calls-06.txt"),
-    include_str!("../data/calls-days.txt"),
+    include_str!("../data/calls-07.txt"),
 ];
 
 fn plays(calls: &dyn Calls) {

@@ -2,11 +2,11 @@
 -- Assumes nothing.
 use mathlib.Core.Path.{sym, ap}
 use mathlib.Core.Bool.{true, false}
-use native.Mathlib.Omega.{arith}
 use Rattle.synop_text.specs.Groups.{groups}
 use Rattle.engine_answers.specs.Good.{Good}
 use Rattle.engine_answers.specs.Replies.{reply}
 use Rattle.engine_answers.specs.declared.Reply.{Reply}
+use Rattle.engine_answers.proofs.Stores.{known}
 use Rattle.bulletin_text.specs.Rebuilt.{heading, rebuilt}
 use Rattle.rules.specs.Calls.{isAccepted}
 use Rattle.text_bytes.specs.Written.{Holds}
@@ -23,7 +23,7 @@ holds : (c : tie.After-put)
 holds c = holds-more _ _ (c .put .ensures) (holds-more _ _ (c .before .before .before .squeeze .ensures) (c .before .before .before .before .before .begin .ensures))
 
 good : (c : tie.After-put) → Good (c .before .before .before .before .before .before .before .before .args .store .now)
-good c = record { sound = c .before .before .before .before .before .before .before .before .pre .0; bytes = record { each = λ k. omega (arith, c .before .before .before .before .before .before .before .slice-known .given k) } }
+good c = record { sound = c .before .before .before .before .before .before .before .before .pre .0; bytes = known (c .before .before .before .before .before .before .before .slice-known .given) }
 
 part-file-in-end : tie.Need-part-file-in-end
 part-file-in-end c = holds (c .before .before .before) .upto

@@ -8,12 +8,6 @@ use Rattle.bulletin.proofs.Reports.{Filing, filing-none, filing-more, f
 use borrow.Author.Needs.{needs}
 use Rattle.bulletin.proofs.file_reports.Statement.{statement}
 use Rattle.bulletin.proofs.file_reports.Tie as tie
-use Rattle.bulletin.proofs.file_reports.Reads as reads
-use Rattle.bulletin.proofs.file_reports.Lts as lts
-use Rattle.bulletin.proofs.file_report.Reads as file-report-reads
-use Rattle.bulletin_text.proofs.is_blank.Reads as is-blank-reads
-use Rattle.bulletin.proofs.one_if.Reads as one-if-reads
-use Rattle.bulletin.proofs.one_unless.Reads as one-unless-reads
 
 abbrev Inv-loop : tie.InvT-loop
 Inv-loop store₀ text at rank a b c d e i₀ end₀ accepted₀ refused₀ store i end accepted refused = Filing rank (heading a b c d e) text at store₀ i end accepted refused store

@@ -5,10 +5,6 @@ use Rattle.bulletin_text.proofs.Cuts.{blank-none, blank-some}
 use Rattle.synop_text.specs.Walk.{Bounds}
 use Rattle.bulletin_text.proofs.is_blank.Statement.{statement}
 use Rattle.bulletin_text.proofs.is_blank.Tie as tie
-use Rattle.bulletin_text.proofs.is_blank.Reads as reads
-use Rattle.bulletin_text.proofs.is_blank.Lts as lts
-use Rattle.synop_text.proofs.Cursor.new.Reads as new-reads
-use Rattle.synop_text.proofs.Cursor.step.Reads as step-reads
 
 -- what `step` ensures of the group that it found
 bounds : (c : tie.After-known-told) →

@@ -1,7 +1,6 @@
 -- `capi_arrays::line_floats` meets its contract.
 -- Assumes nothing.
 use borrow.Author.Needs.{needs}
-use mathlib.Core.Path.{_≡_}
 use mathlib.Core.List.{[], _∷_}
 use Rattle.capi_arrays.specs.Arrays.{floats}
 use Rattle.capi_arrays.proofs.line_floats.Statement.{statement}

@@ -2,7 +2,7 @@
 -- Assumes nothing.
 use Rattle.capi_arrays.proofs.Signed.{less-none}
 use borrow.Author.Needs.{needs}
-use mathlib.Core.Path.{_≡_, _∙_}
+use mathlib.Core.Path.{_∙_}
 use mathlib.Core.List.{[], _∷_}
 use mir.Syntax.{w32}
 use mir.Facts.{toZ-ofZ}

@@ -3,8 +3,6 @@
 use borrow.Author.Needs.{needs}
 use Rattle.capi_arrays.proofs.mean_kind.Statement.{statement}
 use Rattle.capi_arrays.proofs.mean_kind.Tie as tie
-use Rattle.capi_arrays.proofs.mean_kind.Reads as reads
-use Rattle.capi_arrays.proofs.mean_kind.Lts as lts
 
 enum-told : tie.Need-enum-told
 enum-told c = search needs

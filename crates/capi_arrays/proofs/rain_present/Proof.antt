@@ -3,8 +3,6 @@
 use borrow.Author.Needs.{needs}
 use Rattle.capi_arrays.proofs.rain_present.Statement.{statement}
 use Rattle.capi_arrays.proofs.rain_present.Tie as tie
-use Rattle.capi_arrays.proofs.rain_present.Reads as reads
-use Rattle.capi_arrays.proofs.rain_present.Lts as lts
 
 enum-told : tie.Need-enum-told
 enum-told c = search needs

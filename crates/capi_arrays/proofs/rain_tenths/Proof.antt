@@ -1,14 +1,12 @@
 -- `capi_arrays::rain_tenths` meets its contract.
 -- Assumes nothing.
-use mathlib.Core.Path.{_≡_, sym, _∙_, ap}
+use mathlib.Core.Path.{sym, _∙_, ap}
 use mir.Syntax.{w32}
 use mir.Facts.{toZ-ofZ}
 use Rattle.capi_arrays.specs.Arrays.{tenths}
 use borrow.Author.Needs.{needs}
 use Rattle.capi_arrays.proofs.rain_tenths.Statement.{statement}
 use Rattle.capi_arrays.proofs.rain_tenths.Tie as tie
-use Rattle.capi_arrays.proofs.rain_tenths.Reads as reads
-use Rattle.capi_arrays.proofs.rain_tenths.Lts as lts
 
 enum-told : tie.Need-enum-told
 enum-told c = search needs

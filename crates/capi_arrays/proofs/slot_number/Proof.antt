@@ -1,7 +1,7 @@
 -- `capi_arrays::slot_number` meets its contract.
 -- Assumes nothing.
 use Rattle.capi_arrays.proofs.Signed.{less-none}
-use mathlib.Core.Path.{_≡_, sym, _∙_, ap, subst}
+use mathlib.Core.Path.{sym, _∙_, ap, subst}
 use mir.Syntax.{w32}
 use mir.Facts.{toZ-ofZ}
 use native.Mathlib.Omega.{arith}
@@ -9,9 +9,6 @@ use Rattle.capi_arrays.specs.Arrays.{Near, slotNumber}
 use borrow.Author.Needs.{needs}
 use Rattle.capi_arrays.proofs.slot_number.Statement.{statement}
 use Rattle.capi_arrays.proofs.slot_number.Tie as tie
-use Rattle.capi_arrays.proofs.slot_number.Reads as reads
-use Rattle.capi_arrays.proofs.slot_number.Lts as lts
-use Rattle.laws.proofs.difference.Reads as difference-reads
 
 enum-told : tie.Need-enum-told
 enum-told c = search needs

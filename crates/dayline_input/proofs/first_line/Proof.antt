@@ -4,7 +4,6 @@
 use borrow.Author.Needs.{needs}
 use mathlib.Core.Path.{_≡_, refl}
 use lib.ListN.{length}
-use Rattle.dayline_text.proofs.Parts.{counts}
 use Rattle.dayline_input.specs.Input.{Unended}
 use Rattle.dayline_input.proofs.Beginnings.{none, more, begins, fails}
 use Rattle.dayline_input.proofs.first_line.Statement.{statement}

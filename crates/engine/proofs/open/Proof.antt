@@ -3,19 +3,10 @@
 use Rattle.rules.specs.Step.{Outcome}
 use Rattle.engine_answers.specs.Replies.{openIn}
 use Rattle.laws.proofs.Bools.{via, cond-true, cond-false}
-use mathlib.Core.Path.{_≡_, refl, sym, _∙_, ap, subst}
+use mathlib.Core.Path.{sym, _∙_, ap}
 use borrow.Author.Needs.{needs}
 use Rattle.engine.proofs.open.Statement.{statement}
 use Rattle.engine.proofs.open.Tie as tie
-use Rattle.engine.proofs.open.Reads as reads
-use Rattle.engine.proofs.open.Lts as lts
-use Rattle.store_opening.proofs.open.open.Reads as open-reads
-
-open-requires : tie.Need-open-requires
-open-requires c κs = tt
-
-same-length : tie.Need-same-length
-same-length c = search needs
 
 returns : tie.Need-returns
 unfolding openIn
@@ -23,9 +14,6 @@ returns c =
     let o = c .before .before .before .«open» .ensures in
     let e = via (o .accepted) (c .if1 .taken) in
     record { answer = sym (ap (λ (o : Outcome). o .answer) (cond-true _ _ _ e)); left = o .left ∙ cond-true _ _ _ e ∙ sym (ap (λ (o : Outcome). o .store) (cond-true _ _ _ e)) }
-
-same-length-2 : tie.Need-same-length-2
-same-length-2 c = search needs
 
 returns-2 : tie.Need-returns-2
 unfolding openIn
@@ -35,4 +23,4 @@ returns-2 c =
     record { answer = sym (ap (λ (o : Outcome). o .answer) (cond-false _ _ _ e)); left = o .left ∙ cond-false _ _ _ e ∙ sym (ap (λ (o : Outcome). o .store) (cond-false _ _ _ e)) }
 
 pub open-spec : {M : Type 1} → statement M
-open-spec = tie.close (tie.spec open-requires same-length returns same-length-2 returns-2)
+open-spec = tie.close (tie.spec (λ c κs. tt) (λ c. search needs) returns (λ c. search needs) returns-2)

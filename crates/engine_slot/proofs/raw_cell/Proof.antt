@@ -3,8 +3,6 @@
 use borrow.Author.Needs.{needs}
 use Rattle.engine_slot.proofs.raw_cell.Statement.{statement}
 use Rattle.engine_slot.proofs.raw_cell.Tie as tie
-use Rattle.engine_slot.proofs.raw_cell.Reads as reads
-use Rattle.engine_slot.proofs.raw_cell.Lts as lts
 
 enum-told : tie.Need-enum-told
 enum-told c = search needs

@@ -1,16 +1,13 @@
 -- `esfenruk::cell_numbers` meets its contract.
 -- Assumes nothing.
 use Rattle.capi_arrays.proofs.Signed.{less-none}
-use mathlib.Core.Path.{_≡_, _∙_}
+use mathlib.Core.Path.{_∙_}
 use mathlib.Core.List.{[], _∷_}
 use mir.Syntax.{w32}
 use mir.Facts.{toZ-ofZ}
 use borrow.Author.Needs.{needs}
 use Rattle.esfenruk.proofs.cell_numbers.Statement.{statement}
 use Rattle.esfenruk.proofs.cell_numbers.Tie as tie
-use Rattle.esfenruk.proofs.cell_numbers.Reads as reads
-use Rattle.esfenruk.proofs.cell_numbers.Lts as lts
-use Rattle.laws.proofs.difference.Reads as difference-reads
 
 cast-difference : tie.Need-cast-difference
 cast-difference c = search needs

@@ -1,14 +1,10 @@
 -- `esfenruk::esfenruk_begin` meets its contract.
 -- Assumes nothing.
-use mathlib.Core.Path.{_≡_, _∙_, ap}
+use mathlib.Core.Path.{_∙_, ap}
 use Rattle.esfenruk.specs.Numbers.{number}
 use borrow.Author.Needs.{needs}
 use Rattle.esfenruk.proofs.esfenruk_begin.Statement.{statement}
 use Rattle.esfenruk.proofs.esfenruk_begin.Tie as tie
-use Rattle.esfenruk.proofs.esfenruk_begin.Reads as reads
-use Rattle.esfenruk.proofs.esfenruk_begin.Lts as lts
-use Rattle.esfenruk.proofs.number_of.Reads as number-of-reads
-use Rattle.engine.proofs.begin.Reads as begin-reads
 
 begin-requires : tie.Need-begin-requires
 begin-requires c κs = search needs

@@ -1,6 +1,6 @@
 -- `esfenruk::esfenruk_cell` meets its contract.
 -- Assumes nothing.
-use mathlib.Core.Path.{_≡_, sym, _∙_, ap}
+use mathlib.Core.Path.{sym, _∙_, ap}
 use Rattle.engine_answers.specs.Replies.{cellReply}
 use Rattle.rules.specs.Calls.{Answer}
 use Rattle.esfenruk.specs.Numbers.{number}
@@ -8,10 +8,6 @@ use Rattle.esfenruk.specs.Arrays.{cellNumbers}
 use borrow.Author.Needs.{needs}
 use Rattle.esfenruk.proofs.esfenruk_cell.Statement.{statement}
 use Rattle.esfenruk.proofs.esfenruk_cell.Tie as tie
-use Rattle.esfenruk.proofs.esfenruk_cell.Reads as reads
-use Rattle.esfenruk.proofs.esfenruk_cell.Lts as lts
-use Rattle.esfenruk.proofs.cell_numbers.Reads as cell-numbers-reads
-use Rattle.engine.proofs.cell.Reads as cell-reads
 
 cell-requires : tie.Need-cell-requires
 cell-requires c κs = search needs

@@ -1,14 +1,10 @@
 -- `esfenruk::esfenruk_file` meets its contract.
 -- Assumes nothing.
-use mathlib.Core.Path.{_≡_, _∙_, ap}
+use mathlib.Core.Path.{_∙_, ap}
 use Rattle.esfenruk.specs.Numbers.{number}
 use borrow.Author.Needs.{needs}
 use Rattle.esfenruk.proofs.esfenruk_file.Statement.{statement}
 use Rattle.esfenruk.proofs.esfenruk_file.Tie as tie
-use Rattle.esfenruk.proofs.esfenruk_file.Reads as reads
-use Rattle.esfenruk.proofs.esfenruk_file.Lts as lts
-use Rattle.esfenruk.proofs.number_of.Reads as number-of-reads
-use Rattle.engine.proofs.file.Reads as file-reads
 
 file-requires : tie.Need-file-requires
 file-requires c κs = search needs

@@ -1,14 +1,10 @@
 -- `esfenruk::esfenruk_open` meets its contract.
 -- Assumes nothing.
-use mathlib.Core.Path.{_≡_, _∙_, ap}
+use mathlib.Core.Path.{_∙_, ap}
 use Rattle.esfenruk.specs.Numbers.{number}
 use borrow.Author.Needs.{needs}
 use Rattle.esfenruk.proofs.esfenruk_open.Statement.{statement}
 use Rattle.esfenruk.proofs.esfenruk_open.Tie as tie
-use Rattle.esfenruk.proofs.esfenruk_open.Reads as reads
-use Rattle.esfenruk.proofs.esfenruk_open.Lts as lts
-use Rattle.esfenruk.proofs.number_of.Reads as number-of-reads
-use Rattle.engine.proofs.open.Reads as open-reads
 
 open-requires : tie.Need-open-requires
 open-requires c κs = search needs

@@ -1,14 +1,10 @@
 -- `esfenruk::esfenruk_settle` meets its contract.
 -- Assumes nothing.
-use mathlib.Core.Path.{_≡_, _∙_, ap}
+use mathlib.Core.Path.{_∙_, ap}
 use Rattle.esfenruk.specs.Numbers.{number}
 use borrow.Author.Needs.{needs}
 use Rattle.esfenruk.proofs.esfenruk_settle.Statement.{statement}
 use Rattle.esfenruk.proofs.esfenruk_settle.Tie as tie
-use Rattle.esfenruk.proofs.esfenruk_settle.Reads as reads
-use Rattle.esfenruk.proofs.esfenruk_settle.Lts as lts
-use Rattle.esfenruk.proofs.number_of.Reads as number-of-reads
-use Rattle.engine.proofs.settle.Reads as settle-reads
 
 settle-requires : tie.Need-settle-requires
 settle-requires c κs = search needs

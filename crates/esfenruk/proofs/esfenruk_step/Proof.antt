@@ -1,14 +1,10 @@
 -- `esfenruk::esfenruk_step` meets its contract.
 -- Assumes nothing.
-use mathlib.Core.Path.{_≡_, _∙_, ap}
+use mathlib.Core.Path.{_∙_, ap}
 use Rattle.esfenruk.specs.Numbers.{number}
 use borrow.Author.Needs.{needs}
 use Rattle.esfenruk.proofs.esfenruk_step.Statement.{statement}
 use Rattle.esfenruk.proofs.esfenruk_step.Tie as tie
-use Rattle.esfenruk.proofs.esfenruk_step.Reads as reads
-use Rattle.esfenruk.proofs.esfenruk_step.Lts as lts
-use Rattle.esfenruk.proofs.number_of.Reads as number-of-reads
-use Rattle.engine.proofs.step.Reads as step-reads
 
 step-requires : tie.Need-step-requires
 step-requires c κs = search needs

@@ -1,15 +1,12 @@
 -- `quality_steps::fill_all` meets its contract.
 -- Assumes nothing.
 use mathlib.Core.List.{[]}
-use mathlib.Core.Path.{_∙_, sym, ap}
 use Prim.Native.Nat.{_-_}
 use borrow.Author.Needs.{needs}
-use Rattle.laws.proofs.Fill.{Done}
-use Rattle.laws.proofs.Fill as Fill
+use Rattle.laws.proofs.Fill.{Done, whole}
 use Rattle.quality.specs.Settled.{fillOf, fill}
 use Rattle.quality.specs.Elements.{column}
 use Rattle.quality.specs.Coded.{sheet}
-use Rattle.quality.proofs.Sheets.{column-sheet, length-sheet}
 use Rattle.quality.proofs.Sheets as Sheets
 use Rattle.quality_steps.proofs.fill_all.Statement.{statement}
 use Rattle.quality_steps.proofs.fill_all.Tie as tie
@@ -20,33 +17,14 @@ Inv-loop s r₀ e₀ r e = Done (λ j. fillOf j (column (sheet s) j)) [] 9 (shee
 abbrev μ-loop : tie.MeasureT-loop
 μ-loop s r₀ e₀ r e = 9 - e
 
-loop-holds : tie.Need-loop-holds Inv-loop μ-loop
-loop-holds c = Fill.none _ _ _ _ (length-sheet (c .args .t1) ∙ search needs)
-
-loop-again : tie.Need-loop-again Inv-loop μ-loop
-loop-again c =
-    let l = c .before .before .before in
-    let s = l .before .args .t1 in
-    Sheets.more (λ j. fillOf j (column (sheet s) j)) (l .loop .r) (l .loop .e) (c .fill-element .result) (l .loop .inv) (search needs)
-    (c .fill-element .ensures ∙ ap (fillOf (l .loop .e)) (sym (column-sheet s (l .loop .e) _ (search needs))))
-
-returns : tie.Need-returns Inv-loop μ-loop
-unfolding fill
-returns c = Fill.whole (c .before .loop .inv) (search needs)
-
 pub fill-all-spec : {M : Type 1} → statement M
+unfolding fill
 fill-all-spec =
     tie.close
     (tie.spec
     Inv-loop
     μ-loop
-    loop-holds
-    (λ c. search needs)
-    (λ c. search needs)
-    (λ c κs. tt)
-    (λ c. search needs)
-    (λ c. search needs)
-    (λ c. search needs)
-    (λ c. search needs)
-    loop-again
-    returns)
+    (λ c. Sheets.none fillOf (c .args .t1) (search needs))
+    (λ c. search needs) (λ c. search needs) (λ c κs. tt) (λ c. search needs) (λ c. search needs) (λ c. search needs) (λ c. search needs)
+    (λ c. Sheets.more fillOf (c .before .before .before .before .args .t1) (search needs) (c .before .before .before .loop .r) (c .fill-element .result) _ (c .before .before .before .loop .inv) (search needs) (c .fill-element .ensures))
+    (λ c. whole (c .before .loop .inv) (search needs)))

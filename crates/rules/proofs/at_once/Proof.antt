@@ -1,11 +1,8 @@
 -- `rules::at_once` meets its contract: settle beside begin and four steps.
 -- Assumes nothing.
 use Rattle.rules.proofs.AtOnce.{at-once}
-use borrow.Author.Needs.{needs}
 use Rattle.rules.proofs.at_once.Statement.{statement}
 use Rattle.rules.proofs.at_once.Tie as tie
-use Rattle.rules.proofs.at_once.Reads as reads
-use Rattle.rules.proofs.at_once.Lts as lts
 
 returns : tie.Need-returns
 returns c = at-once

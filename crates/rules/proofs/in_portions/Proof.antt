@@ -3,11 +3,8 @@
 use Rattle.rules.proofs.InPortions.{in-portions}
 use Rattle.rules.proofs.Requests.{all-lawful}
 use Rattle.rules.proofs.Reports.{report-bounds}
-use borrow.Author.Needs.{needs}
 use Rattle.rules.proofs.in_portions.Statement.{statement}
 use Rattle.rules.proofs.in_portions.Tie as tie
-use Rattle.rules.proofs.in_portions.Reads as reads
-use Rattle.rules.proofs.in_portions.Lts as lts
 
 returns : tie.Need-returns
 returns c = in-portions (all-lawful report-bounds)

@@ -1,11 +1,8 @@
 -- `rules::isolated` meets its contract: it is demand 3.
 -- Assumes nothing.
 use Rattle.rules.proofs.Demand3.{demand3}
-use borrow.Author.Needs.{needs}
 use Rattle.rules.proofs.isolated.Statement.{statement}
 use Rattle.rules.proofs.isolated.Tie as tie
-use Rattle.rules.proofs.isolated.Reads as reads
-use Rattle.rules.proofs.isolated.Lts as lts
 
 returns : tie.Need-returns
 returns c = demand3

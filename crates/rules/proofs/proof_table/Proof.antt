@@ -1,11 +1,8 @@
 -- `rules::proof_table` meets its contract: it is the proof table.
 -- Assumes nothing.
 use Rattle.rules.proofs.ProofTable.{proof-table}
-use borrow.Author.Needs.{needs}
 use Rattle.rules.proofs.proof_table.Statement.{statement}
 use Rattle.rules.proofs.proof_table.Tie as tie
-use Rattle.rules.proofs.proof_table.Reads as reads
-use Rattle.rules.proofs.proof_table.Lts as lts
 
 returns : tie.Need-returns
 returns c = proof-table

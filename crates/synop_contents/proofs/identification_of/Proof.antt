@@ -1,6 +1,6 @@
 -- `synop_contents::identification_of` meets its contract: each number by what is ensured of it and of the characters.
 -- Assumes nothing.
-use mathlib.Core.Path.{_≡_, _∙_, ap}
+use mathlib.Core.Path.{_∙_, ap}
 use borrow.Author.Needs.{needs}
 use Rattle.synop_figures.specs.declared.Characters.{Characters}
 use Rattle.synop_contents.specs.Contents.{identificationOf, stationOf, twoOf}

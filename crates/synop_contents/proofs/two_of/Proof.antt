@@ -1,7 +1,6 @@
 -- `synop_contents::two_of` meets its contract: a number of two digits fits a byte.
 -- Assumes nothing.
 use borrow.Author.Needs.{needs}
-use Prim.Native.Nat.{_<_}
 use mathlib.Core.Path.{_∙_, ap}
 use native.Mathlib.Omega.{arith}
 use lib.Dec.{lit<}

@@ -6,6 +6,7 @@
 //! compare replay FILE..: the calls written in the files (see `script`).
 //! compare show FILE..: the same, printed as by trace.
 //! compare play FILE..: the calls written in the files with the answers expected (see `played`), on each of the two.
+//! compare transcript NAME..: what each of the two prints for the lines of NAME.in, beside NAME.out (see `transcript`).
 //!
 //! The last line is 'N passed, M failed'; the status is 0 only where none failed.
 
@@ -17,7 +18,9 @@ use reading::generate::{dayline_input, Step};
 use reading::played;
 use reading::reached::{Reached, ROWS};
 use reading::sweeps::SWEEPS;
-use std::fs::File;
+use reading::transcript;
+use std::fs::{self, File};
+use std::io;
 use std::process::{Command, ExitCode};
 
 /// So many differences are printed; all are counted.
@@ -31,7 +34,8 @@ fn main() -> ExitCode {
         Some("dayline") => return dayline(&arguments[1..]),
         Some("replay") => return end(replay(&arguments[1..], &mut |_, _| {})),
         Some("show") => return end(replay(&arguments[1..], &mut |file, heard| print_heard(&file, heard))),
-        Some("play") => return end(play(&arguments[1..])),
+        Some("play") => return end(on_both(&arguments[1..], play)),
+        Some("transcript") => return end(on_both(&arguments[1..], print)),
         _ => {}
     }
     let number = |at: usize, default: u64| {
@@ -48,7 +52,7 @@ fn main() -> ExitCode {
 }
 
 fn usage() -> ExitCode {
-    eprintln!("usage: compare [CALLS [SEED [trace]]] | sweep | dayline PROGRAM [INPUTS [SEED]] | replay FILE.. | show FILE.. | play FILE..");
+    eprintln!("usage: compare [CALLS [SEED [trace]]] | sweep | dayline PROGRAM [INPUTS [SEED]] | replay FILE.. | show FILE.. | play FILE.. | transcript NAME..");
     ExitCode::from(2)
 }
 
@@ -101,7 +105,7 @@ fn dayline(arguments: &[String]) -> ExitCode {
     let (mut passed, mut failed) = (0, 0);
     for seed in seed..seed + inputs {
         let input = dayline_input(seed);
-        std::fs::write(&file, &input).expect("a file for the input");
+        fs::write(&file, &input).expect("a file for the input");
         let mut lines = DayLines::default();
         lines.feed(&input);
         let expected = lines.finish();
@@ -118,7 +122,7 @@ fn dayline(arguments: &[String]) -> ExitCode {
             println!("  expected:\n{expected}  printed:\n{printed}");
         }
     }
-    let _ = std::fs::remove_file(&file);
+    let _ = fs::remove_file(&file);
     end((passed, failed))
 }
 
@@ -126,7 +130,7 @@ fn replay(files: &[String], hear: &mut dyn FnMut(&str, Heard)) -> (u64, u64) {
     let engine = Fenced::new(&Engine);
     let mut outcome = Outcome::default();
     for file in files {
-        let Ok(script) = std::fs::read(file) else {
+        let Ok(script) = fs::read(file) else {
             println!("{file}: cannot be read");
             outcome.failed += 1;
             continue;
@@ -139,17 +143,17 @@ fn replay(files: &[String], hear: &mut dyn FnMut(&str, Heard)) -> (u64, u64) {
     (outcome.passed, outcome.failed)
 }
 
-fn play(files: &[String]) -> (u64, u64) {
+/// What is written down in each file, on the reference and on the engine: how many lines there are, and those that differ.
+fn on_both(files: &[String], lines: fn(&dyn Calls, &str) -> io::Result<(usize, Vec<String>)>) -> (u64, u64) {
     let engine = Fenced::new(&Engine);
     let (mut passed, mut failed) = (0, 0);
     for file in files {
-        let Ok(lines) = std::fs::read_to_string(file) else {
-            println!("{file}: cannot be read");
-            failed += 1;
-            continue;
-        };
         for (name, calls) in [("reference", &Reference as &dyn Calls), ("engine", &engine)] {
-            let (all, differences) = played::play(calls, &lines);
+            let Ok((all, differences)) = lines(calls, file) else {
+                println!("{file}: cannot be read");
+                failed += 1;
+                continue;
+            };
             for difference in differences.iter().take(SHOWN as usize) {
                 println!("DIFFERENCE of the {name} in {file}, {difference}");
             }
@@ -158,6 +162,15 @@ fn play(files: &[String]) -> (u64, u64) {
         }
     }
     (passed, failed)
+}
+
+fn play(calls: &dyn Calls, file: &str) -> io::Result<(usize, Vec<String>)> {
+    Ok(played::play(calls, &fs::read_to_string(file)?))
+}
+
+fn print(calls: &dyn Calls, name: &str) -> io::Result<(usize, Vec<String>)> {
+    let [lines, expected] = ["in", "out"].map(|end| fs::read_to_string(format!("{name}.{end}")));
+    Ok(transcript::check(calls, &lines?, &expected?))
 }
 
 fn print_heard(from: &dyn std::fmt::Display, heard: Heard) {

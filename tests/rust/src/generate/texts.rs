@@ -13,6 +13,9 @@ const KNOTS: [i32; 8] = [0, 45, 77, 78, 79, 99, 145, 146];
 const RAIN: [i32; 12] = [0, 1, 199, 200, 201, 499, 500, 501, 989, 990, 991, 999];
 const HUMIDITIES: [i32; 8] = [0, 0, 1, 2, 99, 100, 101, 101];
 
+/// How far T and P move from one report to the next on most days.
+const SPREAD: i32 = 30;
+
 /// A station's weather over an episode.
 pub struct Weather {
     /// How often, in a hundred, a value is odd.
@@ -22,6 +25,8 @@ pub struct Weather {
     /// How often, in a hundred, there has been no rain, which iR 3 says, mostly without a group 6.
     dry: usize,
     temperature: i32,
+    /// How far T moves from one report to the next: on flat days not at all, or hardly.
+    spread: i32,
     pressure: i32,
     /// How rain is measured: 0 over 24 hours, 1 over 12, 2 over 6, 3 anyhow.
     rain: usize,
@@ -33,7 +38,8 @@ impl Weather {
             odd: rng.pick(&[0, 1, 3, 10, 30]),
             humid: rng.pick(&[0, 0, 0, 0, 10, 40, 100]),
             dry: rng.pick(&[0, 0, 0, 30, 60, 100]),
-            temperature: rng.between(-150, 250),
+            temperature: if rng.chance(5) { 0 } else { rng.between(-150, 250) },
+            spread: rng.pick(&[SPREAD, SPREAD, SPREAD, 2, 1, 0]),
             pressure: rng.between(9800, 10300),
             rain: rng.below(4),
         }
@@ -195,13 +201,13 @@ fn humidity(rng: &mut Rng, weather: &Weather) -> Vec<u8> {
     maybe_slashed(rng, weather, format!("29{percent:03}"))
 }
 
-/// A value near another, at times a jump that the time step looks at, or its negative.
-fn moved(rng: &mut Rng, weather: &Weather, value: i32) -> i32 {
+/// A value that differs from another by a spread, at times by a jump that the time step looks at, or its negative.
+fn moved(rng: &mut Rng, weather: &Weather, value: i32, spread: i32) -> i32 {
     if !weather.is_odd(rng) && !rng.chance(4) {
-        return value + rng.between(-30, 30);
+        return value + rng.between(-spread, spread);
     }
     match rng.below(4) {
-        0 => -value + rng.between(-60, 60),
+        0 => -value + rng.between(-2 * spread, 2 * spread),
         1 => value + rng.between(95, 106),
         2 => value - rng.between(95, 106),
         _ => value + rng.between(-400, 400),
@@ -220,7 +226,7 @@ fn or_limit(rng: &mut Rng, weather: &Weather, value: i32, limits: &[i32]) -> i32
 /// Section 1 groups, in order.
 fn section1(rng: &mut Rng, weather: &mut Weather, rain: Option<Vec<u8>>, groups: &mut Vec<Vec<u8>>) {
     let given = |rng: &mut Rng, weather: &Weather| !weather.is_odd(rng);
-    let t = moved(rng, weather, weather.temperature);
+    let t = moved(rng, weather, weather.temperature, weather.spread);
     let t = or_limit(rng, weather, t, &TEMPERATURES);
     if given(rng, weather) {
         groups.push(temperature(rng, weather, 1, t));
@@ -236,7 +242,7 @@ fn section1(rng: &mut Rng, weather: &mut Weather, rain: Option<Vec<u8>>, groups:
         groups.push(any_of(rng, b'3'));
     }
     if given(rng, weather) {
-        let p = moved(rng, weather, weather.pressure);
+        let p = moved(rng, weather, weather.pressure, SPREAD);
         let p = or_limit(rng, weather, p, &PRESSURES);
         let code = if rng.chance(2) { rng.between(0, 9999) } else { p.rem_euclid(10000) };
         groups.push(maybe_slashed(rng, weather, format!("4{code:04}")));
@@ -251,7 +257,7 @@ fn section1(rng: &mut Rng, weather: &mut Weather, rain: Option<Vec<u8>>, groups:
         }
     }
     // The weather drifts, but a jump does not stay.
-    if (t - weather.temperature).abs() <= 30 {
+    if (t - weather.temperature).abs() <= SPREAD {
         weather.temperature = t.clamp(-300, 380);
     }
 }

@@ -1,12 +1,11 @@
 //! What filing at a rank reached (document 02, S-3).
 
 use super::dry::BY_BULLETIN;
-use super::Reached;
+use super::{against, Reached};
 use crate::calls::{Calls, Reference};
 use crate::place::{place, reports, Place};
 use crate::reference::layout::{Record, FILED, RANK};
 use crate::reference::store::{HIGHEST_RANK, ORDINARY};
-use std::cmp::Ordering;
 
 impl Reached {
     /// What makes a head's rank unsound, in a buffer as long as a store of n stations.
@@ -81,14 +80,5 @@ impl Reached {
             };
             self.add("bulletin: slot that a report met", kind);
         }
-    }
-}
-
-/// 0 below, 1 equal, 2 above.
-fn against(rank: u32, other: u32) -> u32 {
-    match rank.cmp(&other) {
-        Ordering::Less => 0,
-        Ordering::Equal => 1,
-        Ordering::Greater => 2,
     }
 }

@@ -22,6 +22,14 @@ pub struct DayLine {
     pub counts: [u32; 4],
 }
 
+/// The slot that is taken of those with one temperature: "the warmest slot is now the latest. The coldest slot keeps the
+/// earliest" (document 02, S-7).
+#[derive(Clone, Copy, Debug, PartialEq, Eq)]
+enum Tie {
+    Earliest,
+    Latest,
+}
+
 /// The day line of a settled station.
 pub fn day_line(block: &[u8]) -> DayLine {
     let sheet = store::checked_sheet(block);
@@ -29,8 +37,8 @@ pub fn day_line(block: &[u8]) -> DayLine {
     DayLine {
         means: [plain(T), plain(D), plain(P), plain(W), plain(C), mean(&sheet, vapour_pressure)],
         rain: rain(block, &sheet),
-        warmest: extreme(&sheet, |t, best| t > best),
-        coldest: extreme(&sheet, |t, best| t < best),
+        warmest: extreme(&sheet, |t, best| t > best, Tie::Latest),
+        coldest: extreme(&sheet, |t, best| t < best, Tie::Earliest),
         counts: counts(&sheet),
     }
 }
@@ -85,12 +93,12 @@ pub fn half(block: &[u8], sheet: &Sheet, end: usize) -> Option<i32> {
     }
 }
 
-/// The earliest slot of 0 to 7 whose T no other beats.
-fn extreme(sheet: &Sheet, beats: impl Fn(i32, i32) -> bool) -> Option<u8> {
+/// Of the slots 0 to 7 whose T no other beats, the one that the tie asks for.
+fn extreme(sheet: &Sheet, beats: impl Fn(i32, i32) -> bool, tie: Tie) -> Option<u8> {
     let mut best: Option<(u8, i32)> = None;
     for slot in 0..8 {
         if let Some(t) = sheet[slot as usize][T].get() {
-            if best.is_none_or(|(_, value)| beats(t, value)) {
+            if best.is_none_or(|(_, value)| beats(t, value) || (t == value && tie == Tie::Latest)) {
                 best = Some((slot, t));
             }
         }

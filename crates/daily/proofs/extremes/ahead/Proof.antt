@@ -11,4 +11,4 @@ ahead-spec =
     (λ c κs. search needs)
     (λ c κs. search needs)
     (λ c κs. search needs)
-    (λ c. rw (c .before .before .is-missing .ensures, c .before .is-missing2 .ensures, c .beyond .ensures)))
+    (λ c. rw (c .before .before .is-missing .ensures, c .before .is-missing2 .ensures, c .outdoes .ensures)))

@@ -12,9 +12,9 @@ use Rattle.daily.proofs.extremes.better.Tie as tie
 
 -- the test, of the column's cells
 told : (x : tie.After-ahead) {v : Bool} → x .ahead .result ≡ v
-    → ahead (x .before .before .before .args .warmer) (slot (cells (x .before .before .before .args .t)) (x .before .before .before .args .k))
+    → ahead (x .before .before .before .args .tie) (x .before .before .before .args .warmer) (slot (cells (x .before .before .before .args .t)) (x .before .before .before .args .k))
     (slot (cells (x .before .before .before .args .t)) (x .before .before .before .args .best)) ≡ v
-told x = via (x .ahead .ensures ∙ ap₂ (ahead (x .before .before .before .args .warmer)) (x .before .before .at .ensures) (x .before .at2 .ensures))
+told x = via (x .ahead .ensures ∙ ap₂ (ahead (x .before .before .before .args .tie) (x .before .before .before .args .warmer)) (x .before .before .at .ensures) (x .before .at2 .ensures))
 
 pub better-spec : {M : Type 1} → statement M
 better-spec =

@@ -1,0 +1,2 @@
+-- Laws on a report put in its slot.
+pub mod Placed

@@ -1,0 +1,3 @@
+-- Laws of the generator: the recurrence as the code has it.
+pub mod Terms
+pub mod Index
