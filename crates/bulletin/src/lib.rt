@@ -1,12 +1,15 @@
 // Bulletins: a heading, then reports without it, filed one after the other with that heading. The call `bulletin` has no `requires`: it
 // answers on every buffer and text, and its contract gives the whole answer and every byte of the store at exit.
+#![tactic(auto)]
+
 ghost use Rattle.std.specs.Prelude.{◌≡◌, cond, drop};
 ghost use Rattle.store_layout.specs.Form.{ours, AnyTwoForms};
 ghost use Rattle.bulletin_text.specs.Pieces.{parted};
 ghost use Rattle.bulletin_text.specs.Rebuilt.{heading};
 ghost use Rattle.bulletin.specs.Filings.{AsCalls};
 ghost use Rattle.bulletin.specs.Forms.{SameBulletins};
-ghost use Rattle.bulletin.specs.Bulletin.{filings, at_first, Tallied, Ready, result, Gave};
+ghost use Rattle.bulletin.specs.Bulletin.{filings, at_first, Tallied, Ready, Gave};
+ghost use Rattle.bulletin.specs.Bulletin as Bulletin;
 
 use bulletin_report::file_report;
 use bulletin_text::{Heading, is_blank, start_of};
@@ -14,14 +17,14 @@ use quality::head::HIGHEST_RANK;
 use text_bytes::find;
 
 // The reports that were accepted, and those that were refused.
-#[derive(Drop)]
+#[derive(Clone, Copy)]
 pub struct Tally {
     pub accepted: u32,
     pub refused: u32,
 }
 
 // The bulletin was taken and its reports counted, or it was refused whole with the paper's number.
-#[derive(Drop)]
+#[derive(Clone, Copy)]
 pub enum BulletinReply {
     Counted(Tally),
     Refused(u32),
@@ -31,7 +34,7 @@ pub enum BulletinReply {
 
 // What a report adds to the reports accepted.
 fn one_if(accepted: bool) -> u32
-    ensures* { λ r. ⌜ r ≡ cond accepted 1 0 ⌝ }
+    ensures { result ≡ cond accepted 1 0 }
 {
     if accepted {
         return 1;
@@ -41,7 +44,7 @@ fn one_if(accepted: bool) -> u32
 
 // What a report adds to the reports refused.
 fn one_unless(accepted: bool) -> u32
-    ensures* { λ r. ⌜ r ≡ cond accepted 0 1 ⌝ }
+    ensures { result ≡ cond accepted 0 1 }
 {
     if accepted {
         return 0;
@@ -62,7 +65,7 @@ fn file_reports(
     e: u8,
 ) -> Tally
     requires { Ready store.old text.now at rank }
-    ensures* { λ r. ⌜ Tallied (filings ours rank (heading a b c d e) (parted (drop at text.now)) (at_first store.old)) r.accepted r.refused store.new ⌝ }
+    ensures { Tallied (filings ours rank (heading a b c d e) (parted (drop at text.now)) (at_first store.old)) result.accepted result.refused store.new }
 {
     let mut i = at;
     let mut end = find(text, b'=', at);
@@ -84,7 +87,7 @@ fn file_reports(
 // A bulletin: refused whole 9, 13 for a rank above 24, 1, then 3 or 4; otherwise its reports are filed in order at that rank and counted. The
 // store is tested once.
 pub fn bulletin(store: &mut [u8], text: &[u8], rank: u32) -> BulletinReply
-    ensures* { λ r. ⌜ Gave (result store.old text.now rank) r store.new ⌝ }
+    ensures { Gave (Bulletin.result store.old text.now rank) result store.new }
 {
     if !store_soundness::sound::is_sound(store) {
         return BulletinReply::Refused(9);
@@ -111,10 +114,10 @@ pub fn bulletin(store: &mut [u8], text: &[u8], rank: u32) -> BulletinReply
 
 // A bulletin leaves what the filings of its reports leave.
 pub fn as_calls()
-    ensures* { λ _. ⌜ AsCalls ⌝ }
+    ensures { AsCalls }
 {}
 
 // In any two byte forms of a store a bulletin gives the same answer and leaves corresponding stores.
 pub fn same_bulletins()
-    ensures* { λ _. ⌜ AnyTwoForms SameBulletins ⌝ }
+    ensures { AnyTwoForms SameBulletins }
 {}

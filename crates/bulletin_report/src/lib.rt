@@ -1,4 +1,6 @@
 // One report of a bulletin: its text rebuilt with the heading, and filed.
+#![tactic(auto)]
+
 ghost use Rattle.std.specs.Prelude.{◌≡◌, true};
 ghost use Rattle.synop_text.specs.Groups.{groups};
 ghost use Rattle.store_layout.specs.Sound.{sound};

@@ -1,4 +1,6 @@
 // The text of bulletins: the heading, and a report's text rebuilt with the heading before it.
+#![tactic(auto)]
+
 ghost use Rattle.std.specs.Prelude.{◌≡◌};
 ghost use Rattle.synop_text.specs.Groups.{groups};
 ghost use Rattle.synop_text.specs.Kinds.{on_five};
@@ -13,14 +15,14 @@ use synop_text::{Cursor, Group, Step};
 use text_bytes::{put, put_all};
 
 // A heading: refused with a number, or the characters of YYGGiw.
-#[derive(Drop)]
+#[derive(Clone, Copy)]
 pub enum Heading {
     Faulty(u32),
     Timed(u8, u8, u8, u8, u8),
 }
 
 // The heading of a bulletin, and where its reports begin.
-#[derive(Drop)]
+#[derive(Clone, Copy)]
 pub struct Start {
     pub heading: Heading,
     pub at: usize,

@@ -1,10 +1,12 @@
 // The calendar of a store's day D: which dates are real, the day after D, and the slot that a report's day and hour name.
+#![tactic(auto)]
+
 ghost use Rattle.std.specs.Prelude.{◌≡◌};
 ghost use Rattle.calendar.specs.Dates.{leap, thirty, days_in, is_date, next_day};
 ghost use Rattle.calendar.specs.Slots.{hours_of_d, hours_after, slot_at, slot_of};
 
 // The slot that a report is for, 0 to 8.
-#[derive(Drop)]
+#[derive(Clone, Copy)]
 pub enum Slot {
     At(usize),
     Nothing,
@@ -39,6 +41,7 @@ fn days_in(year: u32, month: u32) -> u32
 }
 
 // Whether a store can have this date: a real one of the years 2000 to 2099.
+#[tactic(auto, unfolding(crate::specs::Dates::is_date))]
 pub fn is_date(year: u32, month: u32, day: u32) -> bool
     ensures { result ≡ is_date year month day }
 {
@@ -47,6 +50,7 @@ pub fn is_date(year: u32, month: u32, day: u32) -> bool
 }
 
 // The day of the month of the day after.
+#[tactic(auto, using(crate::proofs::Dates::days_within), unfolding(crate::specs::Dates::next_day))]
 fn next_day(year: u32, month: u32, day: u32) -> u32
     ensures { result ≡ next_day year month day }
 {

@@ -6,11 +6,8 @@ use Rattle.std.specs.Float.Ieee.{of_bits}
 use Rattle.daily.specs.Coded.{mean_of, rain_of, slot_of}
 use Rattle.daily.specs.Line as Line
 use Rattle.daily.specs.declared.Mean.{Mean}
-use Rattle.daily.specs.declared.Mean.TheVariants as Mean
 use Rattle.daily.specs.declared.Rain.{Rain}
-use Rattle.daily.specs.declared.Rain.TheVariants as Rain
 use Rattle.daily.specs.declared.Extreme.{Extreme}
-use Rattle.daily.specs.declared.Extreme.TheVariants as Extreme
 use Rattle.daily.specs.declared.DayLine.{DayLine}
 
 -- the code's day line that says the paper's

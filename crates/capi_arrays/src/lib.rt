@@ -1,4 +1,6 @@
 // A day line as arrays of numbers.
+#![tactic(auto)]
+
 ghost use Rattle.std.specs.Prelude.{◌≡◌};
 ghost use Rattle.capi_arrays.specs.Arrays.{float, kind, present, tenths, slot_number, floats, numbers, Near, Small};
 

@@ -1,4 +1,6 @@
 // The calls' answers as numbers, for C and Rust. A day line's are the matter of `capi_arrays`.
+#![tactic(auto)]
+
 ghost use Rattle.std.specs.Prelude.{◌≡◌, [], ◌∷◌, pos};
 ghost use Rattle.capi_numbers.specs.Numbers.{number, filling_number};
 ghost use Rattle.engine_answers.specs.Replies.{reply};

@@ -8,9 +8,7 @@ use Rattle.std.specs.Float.Ieee.Exact.{HasValue}
 use Rattle.daily.specs.declared.Mean.{Mean}
 use Rattle.daily.specs.declared.Mean.TheVariants.{Absent, Read, Mended}
 use Rattle.daily.specs.declared.Rain.{Rain}
-use Rattle.daily.specs.declared.Rain.TheVariants as Rain
 use Rattle.daily.specs.declared.Extreme.{Extreme}
-use Rattle.daily.specs.declared.Extreme.TheVariants as Extreme
 use Rattle.daily.specs.declared.DayLine.{DayLine}
 use Rattle.daily.specs.Means.{Average, absent, read, mended}
 use Rattle.daily.specs.Line as Line

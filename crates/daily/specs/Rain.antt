@@ -1,4 +1,4 @@
--- "Rain: R of slot 8 if its t_r is 4; else the sum of two halves, else absent."
+-- "Rain: R of slot 8 if its tR is 4; else the sum of two halves, else absent."
 -- Assumes nothing.
 use Rattle.std.specs.Prelude.{Bool, false, cond, ◌&&◌, List, map, ℕ, eqb, ℤ, ◌+ℤ◌, get_or}
 use Rattle.std.proofs.Math.Option.{Option, none, some}
@@ -6,7 +6,7 @@ use Rattle.quality.specs.declared.head.SlotHead.{SlotHead}
 use Rattle.quality.specs.Cell.{Cell, missing, slot}
 use Rattle.quality.specs.Steps.{is_zero}
 
--- i_r and t_r of slot k, in its head
+-- iR and tR of slot k, in its head
 abbrev pub i_r : List SlotHead → ℕ → ℕ
 i_r heads k = get_or (map (λ (h : SlotHead). h.ir) heads) k 5
 
@@ -28,18 +28,18 @@ together none b = none
 together (some x) none = none
 together (some x) (some y) = some (x +ℤ y)
 
--- S-5: "a half that ends in a slot with i_r 3, R 0 and t_r 2 is the R of the slot six hours before where that slot has t_r 1"; else the R of the
--- slot with t_r 2 that ends it
+-- S-5: "a half that ends in a slot with iR 3, R 0 and tR 2 is the R of the slot six hours before where that slot has tR 1"; else the R of the
+-- slot with tR 2 that ends it
 abbrev pub twelve_hours : List SlotHead → List Cell → ℕ → ℕ → Option ℤ
 twelve_hours heads rs first last =
     cond (eqb (i_r heads last) 3 && eqb (t_r heads first) 1 && is_nothing (amount rs last)) (amount rs first) (amount rs last)
 
--- a half of the day: the slot that ends it, "with t_r 2, else" that and the slot six hours before, "both t_r 1"
+-- a half of the day: the slot that ends it, "with tR 2, else" that and the slot six hours before, "both tR 1"
 unfoldable pub half : List SlotHead → List Cell → ℕ → ℕ → Option ℤ
 half heads rs first last =
     cond (eqb (t_r heads last) 2) (twelve_hours heads rs first last)
     (cond (eqb (t_r heads first) 1 && eqb (t_r heads last) 1) (together (amount rs first) (amount rs last)) none)
 
--- "First half: slot 4 with t_r 2, else slots 2 and 4 both t_r 1. Second: slot 8 with t_r 2, else slots 6 and 8 both t_r 1."
+-- "First half: slot 4 with tR 2, else slots 2 and 4 both tR 1. Second: slot 8 with tR 2, else slots 6 and 8 both tR 1."
 unfoldable pub rain_total : List SlotHead → List Cell → Option ℤ
 rain_total heads rs = cond (eqb (t_r heads 8) 4) (amount rs 8) (together (half heads rs 2 4) (half heads rs 6 8))

@@ -11,7 +11,7 @@ use crate::Extreme;
 use quality::column::{Column, OffsetCell, at, is_missing};
 
 // Which of several slots with the same temperature counts.
-#[derive(Drop)]
+#[derive(Clone, Copy)]
 pub enum Tie {
     Earliest,
     Latest,

@@ -1,10 +1,12 @@
 // The day line of one station: its form, its rules in specs/, and its extremes and counts. Document 01, "The day line".
 // The crates `daily_means`, `daily_vapours` and `daily_rain` have its other parts, and `daily_line` puts it together.
+#![tactic(auto)]
+
 pub mod counts;
 pub mod extremes;
 
 // A mean over slots 0 to 7: absent, fully read or partly mended.
-#[derive(Drop)]
+#[derive(Clone, Copy)]
 pub enum Mean {
     Absent,
     Read(f64),
@@ -12,21 +14,21 @@ pub enum Mean {
 }
 
 // The day's rain in tenths of a millimetre.
-#[derive(Drop)]
+#[derive(Clone, Copy)]
 pub enum Rain {
     Absent,
     Tenths(i32),
 }
 
 // The warmest or the coldest slot.
-#[derive(Drop)]
+#[derive(Clone, Copy)]
 pub enum Extreme {
     Absent,
     Slot(usize),
 }
 
 // The means, the rain, the extremes, and the counts of the 81 cells by their state.
-#[derive(Drop)]
+#[derive(Clone, Copy)]
 pub struct DayLine {
     pub temperature: Mean,
     pub dew_point: Mean,

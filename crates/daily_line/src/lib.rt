@@ -1,4 +1,6 @@
 // The day line of one station, from its nine checked columns and its slot heads: document 01, "The day line".
+#![tactic(auto)]
+
 ghost use Rattle.quality.specs.Coded.{sheet};
 ghost use Rattle.quality.specs.Valid.{ValidSheet};
 ghost use Rattle.daily.specs.Coded.{Says};

@@ -1,4 +1,6 @@
 // The means of the day line: of a column over slots 0 to 7. The column of vapour pressures is the matter of `daily_vapours`.
+#![tactic(auto)]
+
 ghost use Rattle.std.specs.Prelude.{◌≡◌};
 ghost use Rattle.quality.specs.Coded.{cells};
 ghost use Rattle.daily.specs.Coded.{eighth, IsEighth, SaysMean};
@@ -10,7 +12,7 @@ use laws::difference;
 use quality::column::{Column, at, passed_over};
 
 // The slots 0 to 7 of a column: their values added, in offset binary; that none is missing or a humidity; that none is corrected or filled.
-#[derive(Drop)]
+#[derive(Clone, Copy)]
 struct Tally {
     sum: u32,
     complete: bool,

@@ -1,4 +1,6 @@
 // The day's rain from R and the slot heads.
+#![tactic(auto)]
+
 ghost use Rattle.std.specs.Prelude.{cond, ◌≡◌, ◌<◌};
 ghost use Rattle.quality.specs.Coded.{cells};
 ghost use Rattle.daily.specs.Coded.{rain_of};
@@ -11,14 +13,14 @@ use quality::column::{Column, at, is_missing};
 use quality::head::SlotHead;
 
 // An amount of rain: sum − offset tenths of a millimetre where it is not missing.
-#[derive(Drop)]
+#[derive(Clone, Copy)]
 struct Amount {
     missing: bool,
     sum: u32,
     offset: u32,
 }
 
-// The head of slot k: its i_r and t_r.
+// The head of slot k: its iR and tR.
 fn head_at(heads: [SlotHead; 9], k: usize) -> SlotHead
     requires { k < 9 }
     ensures { (result.ir ≡ Rule.i_r heads k) × (result.tr ≡ Rule.t_r heads k) }
@@ -67,8 +69,8 @@ fn unless_nothing(a: Amount, b: Amount) -> Amount
     b
 }
 
-// A half of the day: the slot that ends it with t_r 2, else that and the slot six hours before, both with t_r 1. Where the slot that ends it
-// has i_r 3, R 0 and t_r 2, a shower of six hours before still counts.
+// A half of the day: the slot that ends it with tR 2, else that and the slot six hours before, both with tR 1. Where the slot that ends it
+// has iR 3, R 0 and tR 2, a shower of six hours before still counts.
 fn half(heads: [SlotHead; 9], r: Column, first: usize, last: usize) -> Amount
     requires first_bound { first < 9 }
     requires last_bound { last < 9 }
@@ -106,7 +108,8 @@ fn answer(a: Amount) -> Rain
     Rain::Tenths(difference(a.sum, a.offset))
 }
 
-// R of slot 8 with t_r 4, else the two halves.
+// R of slot 8 with tR 4, else the two halves.
+#[tactic(auto, using(crate::proofs::Amounts::of_slot_8, crate::proofs::Amounts::of_halves))]
 pub fn rain_total(heads: [SlotHead; 9], r: Column) -> Rain
     ensures { result ≡ rain_of (Rule.rain_total heads (cells r)) }
 {

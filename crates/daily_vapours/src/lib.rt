@@ -1,4 +1,6 @@
 // The column of vapour pressures, in hundredths of hPa, from those of temperatures and dew points.
+#![tactic(auto)]
+
 ghost use Rattle.std.specs.Prelude.{◌≡◌, ◌≤◌};
 ghost use Rattle.laws.specs.Table.{table};
 ghost use Rattle.quality.specs.Cell.{slot};
@@ -34,7 +36,7 @@ fn bases(t: Column, d: Column) -> Column
     r
 }
 
-// What D's cell makes of the table's entry e: where it is a humidity of UUU percent, floor((typeof.e.UUU + 50) / 100), else e itself.
+// What D's cell makes of the table's entry e: where it is a humidity of UUU percent, floor((e·UUU + 50) / 100), else e itself.
 fn share(d: OffsetCell, e: u16) -> u16
     requires { ValidCell dew_point (cell d) × (e ≤ 32767) }
     ensures { (result ≡ means.share (cell d) e) × (result ≤ 32767) }

@@ -1,14 +1,17 @@
 // Reads a day's reports from standard input and prints the day line of each station. The first line has year, month and day, then a
 // number and a climate row for each station; each report after it is cut after its `=`. The input may be of any length: it is read in
 // pieces. All is printed at the end, so that an input which cannot be read to its end prints no day line.
+#![tactic(auto)]
+
 use dayline_day::run;
 use dayline_input::first_line;
 use dayline_text::first_line::opened;
+use std::io::{Stdin, Stdout, Write};
 use store_numbers::at::{store_length, store_space};
 
 // The whole program over a buffer for the pieces of the input: whether all was read and written.
-fn whole(piece: &mut [u8]) -> bool {
-    let start = first_line(piece);
+fn whole(input: &mut Stdin, output: &mut Stdout, piece: &mut [u8]) -> bool {
+    let start = first_line(input, piece);
     if start.failed {
         return false;
     }
@@ -16,12 +19,22 @@ fn whole(piece: &mut [u8]) -> bool {
     let o = opened(l);
     let size = store_length(o.count);
     let mut store = store_space();
-    run(&mut store[..size], piece, start.from, start.got, o)
+    run(
+        input,
+        output,
+        &mut store[..size],
+        piece,
+        start.from,
+        start.got,
+        o,
+    )
 }
 
-fn main() {
+fn main(rt: HostRuntime) {
     let mut piece = io::buffer();
-    if !whole(&mut piece) {
-        io::write_all(libc::STDERR_FILENO, b"dayline: a read or a write failed\n");
+    if !whole(&mut rt.stdin(), &mut rt.stdout(), &mut piece) {
+        let _ = rt
+            .stderr()
+            .write_all(b"dayline: a read or a write failed\n");
     }
 }

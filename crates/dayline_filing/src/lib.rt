@@ -1,5 +1,7 @@
 // The reports of the program `dayline`, filed as they are read, and the line that it prints of a station. The input may be of any length:
 // it comes in pieces, and of a report no more than 513 bytes are kept, since one beyond 512 is refused whatever it holds.
+#![tactic(auto)]
+
 ghost use Rattle.std.specs.Prelude.{◌≡◌, List, [], ◌∷◌, ℕ, ◌≤◌};
 ghost use Rattle.text_bytes.specs.Written.{Holds};
 ghost use Rattle.dayline_filing.specs.Filing.{Begun, Room, Filed, Ended, Under, Feeds, more as Filing·more};
@@ -30,7 +32,7 @@ pub fn open(store: &mut [u8], o: Opening) -> bool
 }
 
 // The report that is being read: how many of its bytes are kept, whether all of it so far is blank, and the reports refused before it.
-#[derive(Drop)]
+#[derive(Clone, Copy)]
 pub struct Progress {
     pub held: usize,
     pub blank: bool,

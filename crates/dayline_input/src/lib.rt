@@ -1,14 +1,17 @@
 // The input of the program `dayline`, read in pieces: what a read gave, and the first line.
-ghost use Rattle.std.specs.Prelude.{length};
+#![tactic(auto)]
+
+ghost use Rattle.std.specs.Prelude.{◌≡◌, ◌<◌, ◌^◌, IfOk, OnErr, length, pos, negsuc};
 ghost use Rattle.io.specs.Counts.{IsPrefixLen};
 ghost use Rattle.dayline_input.specs.Input.{Gave, Reads, Takes, Begins};
 
 use dayline_text::first_line;
 use dayline_text::first_line::Line;
+use std::io::{Read, Result, Stdin};
 use text_bytes::find;
 
 // What a read gave: so many bytes, none at the input's end; or it failed.
-#[derive(Drop)]
+#[derive(Clone, Copy)]
 pub struct Got {
     pub count: usize,
     pub failed: bool,
@@ -31,23 +34,35 @@ fn got_of(answer: isize, piece: &[u8]) -> Got
     }
 }
 
+// The system's answer to a read: how many bytes it put there, or -1. No buffer is longer than isize::MAX.
+fn answer_of(read: Result<usize>) -> isize
+    ensures ok { IfOk read (λ n. n < 2 ^ 63 → result ≡ pos n) }
+    ensures err { OnErr read (result ≡ negsuc 0) }
+{
+    match read {
+        Ok(count) => isize::try_from(count).unwrap_or(isize::MAX),
+        Err(_) => -1,
+    }
+}
+
 // The next piece of the input, at the start of the buffer.
-pub fn read(piece: &mut [u8]) -> Got
+pub fn read(input: &mut Stdin, piece: &mut [u8]) -> Got
     ensures prefix_len { IsPrefixLen result.count piece.new }
     ensures reads { Reads piece.new result }
 {
-    let answer = libc::read(libc::STDIN_FILENO, piece);
+    let answer = answer_of(input.read(piece));
     got_of(answer, piece)
 }
 
 // The first line with the bytes of one piece more: whether it ended in it, and where the reports begin there.
-#[derive(Drop)]
+#[derive(Clone, Copy)]
 pub struct Taken {
     pub line: Line,
     pub ended: bool,
     pub from: usize,
 }
 
+#[tactic(auto, using(crate::proofs::Beginnings::found, crate::proofs::Beginnings::at_end, dayline_text::proofs::Cuts::found))]
 fn take_piece(l: Line, s: &[u8]) -> Taken
     ensures { Takes l s.now result }
 {
@@ -76,7 +91,7 @@ fn take_piece(l: Line, s: &[u8]) -> Taken
 }
 
 // The first line, where the reports start in the piece of the input that its end lies in, and how long that piece is.
-#[derive(Drop)]
+#[derive(Clone, Copy)]
 pub struct Start {
     pub line: Line,
     pub from: usize,
@@ -86,13 +101,13 @@ pub struct Start {
 
 // The first line: pieces are read until it ends. A proved loop has to end, so the pieces are counted down, from a number that no run
 // uses up.
-pub fn first_line(piece: &mut [u8]) -> Start
+pub fn first_line(input: &mut Stdin, piece: &mut [u8]) -> Start
     ensures { Begins piece.new result }
 {
     let mut l = first_line::new();
     let mut turns = u64::MAX;
     while turns > 0 {
-        let got = read(piece);
+        let got = read(input, piece);
         let n = got.count;
         let taken = take_piece(l, &piece[..n]);
         l = taken.line;

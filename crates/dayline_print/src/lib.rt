@@ -1,5 +1,7 @@
 // What the program `dayline` prints, put into a buffer. Each function puts its part behind the bytes that are there, as far as there is
 // room, and answers how many are there then.
+#![tactic(auto)]
+
 ghost use Rattle.text_bytes.specs.Written.{Written, Adds};
 ghost use Rattle.text_numbers.specs.Numbers.{field};
 ghost use Rattle.dayline_print.specs.Printed as printed;

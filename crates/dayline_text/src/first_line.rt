@@ -9,7 +9,7 @@ use crate::cut::is_blank;
 
 // The line so far: the numbers that are whole and how many they are, the number that is being read, whether there is one, and
 // whether the line may still open a store.
-#[derive(Drop)]
+#[derive(Clone, Copy)]
 pub struct Line {
     pub numbers: [u32; 67],
     pub count: usize,
@@ -19,7 +19,7 @@ pub struct Line {
 }
 
 // What a whole line opens: a date, and a number and a row for each of the stations. No station: it cannot open a store.
-#[derive(Drop)]
+#[derive(Clone, Copy)]
 pub struct Opening {
     pub count: usize,
     pub year: u32,

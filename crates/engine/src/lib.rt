@@ -1,5 +1,7 @@
 // The calls on a store of one day: open, file, settle, begin, step, cell, day. No call has a `requires`: each answers on every buffer and argument, and
 // its contract gives the whole answer and every byte of the store at exit.
+#![tactic(auto)]
+
 ghost use Rattle.std.specs.Prelude.{◌≡◌};
 ghost use Rattle.rules.specs.Calls as Calls;
 ghost use Rattle.engine_answers.specs.Replies.{reply, cell_reply, SaysDay, Did, open_outcome};
@@ -29,6 +31,7 @@ pub fn open(
 
 // A report filed at a rank, 0 for an ordinary one, 1 to 24 for CCA to CCX: refused 9, then 13 for a rank above 24, 1 to 7, 13 for a rank
 // below the slot's, 8.
+#[tactic(auto, using(crate::proofs::Located::rank_refused))]
 pub fn file(store: &mut [u8], text: &[u8], rank: u32) -> Reply
     ensures { Did (step (Calls.file text.now rank) store.old) (reply result) store.new }
 {

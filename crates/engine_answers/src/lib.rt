@@ -1,18 +1,20 @@
 // What the calls answer: accepted or what was asked for, or refused with the paper's number.
+#![tactic(auto)]
+
 ghost use Rattle.store_layout.specs.Form.{AnyTwoForms};
 ghost use Rattle.engine_answers.specs.Forms.{SameOpens};
 
 use daily::DayLine;
 
 // Of open, file, settle, begin and step.
-#[derive(Drop)]
+#[derive(Clone, Copy)]
 pub enum Reply {
     Accepted,
     Refused(u32),
 }
 
 // A checked cell.
-#[derive(Drop)]
+#[derive(Clone, Copy)]
 pub struct Cell {
     pub state: u8,
     pub flag: u8,
@@ -20,14 +22,14 @@ pub struct Cell {
 }
 
 // Of cell.
-#[derive(Drop)]
+#[derive(Clone, Copy)]
 pub enum CellReply {
     Cell(Cell),
     Refused(u32),
 }
 
 // Of day.
-#[derive(Drop)]
+#[derive(Clone, Copy)]
 pub enum DayReply {
     Line(DayLine),
     Refused(u32),

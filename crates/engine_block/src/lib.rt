@@ -1,4 +1,6 @@
 // Settling in portions on a station's own part of the store: begin, and one step.
+#![tactic(auto)]
+
 ghost use Rattle.std.specs.Prelude.{◌≡◌, ◌<◌, length};
 ghost use Rattle.store_layout.specs.Layout.{block_length, decode_block};
 ghost use Rattle.store_layout.specs.Updates.{with_checked, with_copies};

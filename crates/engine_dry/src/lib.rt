@@ -1,4 +1,6 @@
-// S-5: R and t_r of a report as its slot gets them, where a dry station left group 6 out.
+// S-5: R and tR of a report as its slot gets them, where a dry station left group 6 out.
+#![tactic(auto)]
+
 ghost use Rattle.std.specs.Prelude.{◌≡◌};
 ghost use Rattle.synop_codes.specs.Value as codes;
 ghost use Rattle.rules.specs.Dry.{is_dry, dry_duration, filed_duration, filed_rain};
@@ -6,7 +8,7 @@ ghost use Rattle.rules.specs.Dry.{is_dry, dry_duration, filed_duration, filed_ra
 use synop_codes::Value;
 use synop_contents::Indicators;
 
-// Whether i_r is 3, and R is absent from the report.
+// Whether iR is 3, and R is absent from the report.
 fn is_dry(h: Indicators) -> bool
     ensures { result ≡ is_dry h }
 {
@@ -17,7 +19,7 @@ fn is_dry(h: Indicators) -> bool
     false
 }
 
-// t_r that the R of a dry station has in slot k; 0 where it stays missing.
+// tR that the R of a dry station has in slot k; 0 where it stays missing.
 fn dry_duration(k: usize) -> u8
     ensures { result ≡ dry_duration k }
 {
@@ -31,7 +33,7 @@ fn dry_duration(k: usize) -> u8
     }
 }
 
-// t_r of a report as slot k gets it.
+// tR of a report as slot k gets it.
 pub fn filed_duration(k: usize, h: Indicators) -> u8
     ensures { result ≡ filed_duration k h }
 {

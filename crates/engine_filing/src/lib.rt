@@ -1,4 +1,6 @@
 // Filing a report in a store that is known to be sound: in the slot of the station that it names.
+#![tactic(auto)]
+
 ghost use Rattle.std.specs.Prelude.{◌≡◌, ℕ, ◌<◌};
 ghost use Rattle.calendar.specs.Slots.{slot_of};
 ghost use Rattle.store_layout.specs.Model.{Station, station_at};

@@ -1,4 +1,6 @@
 // A station's settled number: the step that is due at it, and what a step and an accepted report make of it.
+#![tactic(auto)]
+
 ghost use Rattle.std.specs.Prelude.{◌≡◌, ◌<◌};
 ghost use Rattle.rules.specs.Rules as rules;
 ghost use Rattle.rules.specs.Rules.{onward};

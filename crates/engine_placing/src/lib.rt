@@ -1,5 +1,7 @@
 // A report put in a slot of a station, where its rank allows it: in the station's own part of the store, lent as `&mut store[a..b]`, and the
 // settled number beside it.
+#![tactic(auto)]
+
 ghost use Rattle.std.specs.Prelude.{◌≡◌, ◌<◌, length};
 ghost use Rattle.store_layout.specs.Model.{head_of, station_at};
 ghost use Rattle.store_layout.specs.Layout.{block_length, count_at, word, decode_block, decode};

@@ -1,5 +1,7 @@
 // Settling one station in portions, begin and the four steps: its own part of the store is lent as `&mut store[a..b]` to `engine_block`, and
 // the settled number beside it is `engine_numbers`' matter.
+#![tactic(auto)]
+
 ghost use Rattle.std.specs.Prelude.{◌≡◌, ◌<◌};
 ghost use Rattle.store_layout.specs.Model.{station_at};
 ghost use Rattle.store_layout.specs.Layout.{count_at, word, decode, encode};

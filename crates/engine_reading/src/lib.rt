@@ -1,4 +1,6 @@
 // What a settled station answers: a checked cell, its day line.
+#![tactic(auto)]
+
 ghost use Rattle.std.specs.Prelude.{◌≡◌, ◌<◌};
 ghost use Rattle.store_layout.specs.Model.{station_at};
 ghost use Rattle.store_layout.specs.Layout.{count_at, word, decode};

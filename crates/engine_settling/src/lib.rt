@@ -1,4 +1,6 @@
 // Settling one station at once: on its own part of the store, lent as `&mut store[a..b]`, and on the settled number beside it.
+#![tactic(auto)]
+
 ghost use Rattle.std.specs.Prelude.{◌≡◌, ◌<◌, length};
 ghost use Rattle.store_layout.specs.Model.{station_at};
 ghost use Rattle.store_layout.specs.Layout.{block_length, count_at, word, decode_block, decode, encode};

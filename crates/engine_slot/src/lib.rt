@@ -1,4 +1,6 @@
 // A report as the slot gets it where it is filed: the slot's head and its nine raw cells. What R a dry station has is `engine_dry`'s matter.
+#![tactic(auto)]
+
 ghost use Rattle.std.specs.Prelude.{◌≡◌, map};
 ghost use Rattle.synop_codes.specs.Value as codes;
 ghost use Rattle.quality.specs.Coded.{cell};

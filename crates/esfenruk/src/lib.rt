@@ -1,11 +1,13 @@
 // The calls for C and Rust: open, file, settle, begin, step, cell, day and bulletin. Each returns 0 or the refusal's number, and writes what it
 // answers into the caller's arrays, which a refusal leaves as they are. Beside them the generator of the vapour table, which needs no store. No call has a
 // `requires`: each answers on every buffer and argument.
+#![tactic(auto)]
+
 ghost use Rattle.std.specs.Prelude.{◌≡◌};
 ghost use Rattle.esfenruk.specs.Arrays.{cell_numbers, DayReturned};
 ghost use Rattle.esfenruk.specs.Numbers.{Returned, Delivered};
 ghost use Rattle.capi_numbers.specs.Numbers.{number};
-ghost use Rattle.bulletin.specs.Bulletin.{result};
+ghost use Rattle.bulletin.specs.Bulletin as Bulletin;
 ghost use Rattle.engine_answers.specs.Replies.{open_outcome};
 ghost use Rattle.rules.specs.Calls as Calls;
 ghost use Rattle.rules.specs.Step.{step};
@@ -26,7 +28,7 @@ pub extern "C" fn esfenruk_open(
     stations: &[u32],
     rows: &[u16],
 ) -> u32
-    ensures* { λ r. ⌜ Returned (open_outcome store.old year month day stations.now rows.now) r store.new ⌝ }
+    ensures { Returned (open_outcome store.old year month day stations.now rows.now) result store.new }
 {
     number_of(engine::open(store, year, month, day, stations, rows))
 }
@@ -35,7 +37,7 @@ pub extern "C" fn esfenruk_open(
 // the slot's, 8.
 #[unsafe(no_mangle)]
 pub extern "C" fn esfenruk_file(store: &mut [u8], text: &[u8], rank: u32) -> u32
-    ensures* { λ r. ⌜ Returned (step (Calls.file text.now rank) store.old) r store.new ⌝ }
+    ensures { Returned (step (Calls.file text.now rank) store.old) result store.new }
 {
     number_of(engine::file(store, text, rank))
 }
@@ -43,7 +45,7 @@ pub extern "C" fn esfenruk_file(store: &mut [u8], text: &[u8], rank: u32) -> u32
 // Settles a station: 0, or 9, 6.
 #[unsafe(no_mangle)]
 pub extern "C" fn esfenruk_settle(store: &mut [u8], station: u32) -> u32
-    ensures* { λ r. ⌜ Returned (step (Calls.settle station) store.old) r store.new ⌝ }
+    ensures { Returned (step (Calls.settle station) store.old) result store.new }
 {
     number_of(engine::settle(store, station))
 }
@@ -51,7 +53,7 @@ pub extern "C" fn esfenruk_settle(store: &mut [u8], station: u32) -> u32
 // Begins to settle a station in portions: 0, or 9, 6.
 #[unsafe(no_mangle)]
 pub extern "C" fn esfenruk_begin(store: &mut [u8], station: u32) -> u32
-    ensures* { λ r. ⌜ Returned (step (Calls.begin station) store.old) r store.new ⌝ }
+    ensures { Returned (step (Calls.begin station) store.old) result store.new }
 {
     number_of(engine::begin(store, station))
 }
@@ -59,7 +61,7 @@ pub extern "C" fn esfenruk_begin(store: &mut [u8], station: u32) -> u32
 // Does the step that is due: 0, or 9, 6, 14.
 #[unsafe(no_mangle)]
 pub extern "C" fn esfenruk_step(store: &mut [u8], station: u32) -> u32
-    ensures* { λ r. ⌜ Returned (step (Calls.step station) store.old) r store.new ⌝ }
+    ensures { Returned (step (Calls.step station) store.old) result store.new }
 {
     number_of(engine::step(store, station))
 }
@@ -73,8 +75,8 @@ pub extern "C" fn esfenruk_cell(
     slot: u32,
     out: &mut [i32; 3],
 ) -> u32
-    ensures* r_value { λ r. ⌜ r ≡ number (step (Calls.cell station element slot) store.now).answer ⌝ }
-    ensures* out_after { λ _. ⌜ out.new ≡ cell_numbers (step (Calls.cell station element slot) store.now).answer out.old ⌝ }
+    ensures r_value { result ≡ number (step (Calls.cell station element slot) store.now).answer }
+    ensures out_after { out.new ≡ cell_numbers (step (Calls.cell station element slot) store.now).answer out.old }
 {
     match engine::cell(store, station, element, slot) {
         CellReply::Refused(n) => n,
@@ -93,7 +95,7 @@ pub extern "C" fn esfenruk_day(
     means: &mut [f64; 6],
     numbers: &mut [i32; 14],
 ) -> u32
-    ensures* { λ r. ⌜ DayReturned (step (Calls.day station) store.now).answer means.old numbers.old r means.new numbers.new ⌝ }
+    ensures { DayReturned (step (Calls.day station) store.now).answer means.old numbers.old result means.new numbers.new }
 {
     match engine::day(store, station) {
         DayReply::Refused(n) => n,
@@ -114,7 +116,7 @@ pub extern "C" fn esfenruk_bulletin(
     rank: u32,
     counts: &mut [u32; 2],
 ) -> u32
-    ensures* { λ r. ⌜ Delivered (result store.old text.now rank) counts.old r store.new counts.new ⌝ }
+    ensures { Delivered (Bulletin.result store.old text.now rank) counts.old result store.new counts.new }
 {
     match bulletin::bulletin(store, text, rank) {
         BulletinReply::Refused(n) => n,
@@ -128,7 +130,7 @@ pub extern "C" fn esfenruk_bulletin(
 // Fills `entries` with the vapour table, if it has 1001 numbers: 0, or the length needed.
 #[unsafe(no_mangle)]
 pub extern "C" fn esfenruk_vapour_table(entries: &mut [u16]) -> u32
-    ensures* { λ r. ⌜ Fills 0 (λ n. n) entries.old r entries.new ⌝ }
+    ensures { Fills 0 (λ n. n) entries.old result entries.new }
 {
     filling_number(vapour_generator::fill(entries))
 }

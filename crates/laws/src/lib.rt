@@ -1,5 +1,7 @@
 // What several crates share: signed numbers and their size, and, in specs/ and proofs/, the definitions and laws that their
 // contracts and proofs cite.
+#![tactic(auto)]
+
 ghost use Rattle.std.specs.Prelude.{◌≡◌, ◌<◌, nat_abs};
 ghost use Rattle.std.proofs.Math.IntN.{sub_ℕ};
 

@@ -5,14 +5,14 @@ ghost use Rattle.quality.specs.Coded.{cell, cells};
 ghost use Rattle.quality.specs.Steps.{passed_over};
 
 // A cell: its value v is kept as v + 32768.
-#[derive(Drop)]
+#[derive(Clone, Copy)]
 pub struct OffsetCell {
     pub state: u8,
     pub flag: u8,
     pub value: u16,
 }
 
-#[derive(Drop)]
+#[derive(Clone, Copy)]
 pub struct Column {
     pub values: [u16; 9],
     pub states: [u8; 9],

@@ -1,11 +1,11 @@
-// A slot head: what a slot holds beside its cells. filed is 0 or 1; i_r 0 to 4, else 5; t_r 0 to 9; dd 0 to 36 or 99, else 100; the rank
+// A slot head: what a slot holds beside its cells. filed is 0 or 1; iR 0 to 4, else 5; tR 0 to 9; dd 0 to 36 or 99, else 100; the rank
 // of the report that was filed, 0 for an ordinary one, 1 to 24 for CCA to CCX, 0 while unfiled; copy is the dd that a settling under way
 // reads, 0 while there is none.
 
 // The highest rank, that of CCX.
 pub const HIGHEST_RANK: u32 = 24;
 
-#[derive(Drop)]
+#[derive(Clone, Copy)]
 pub struct SlotHead {
     pub filed: u8,
     pub ir: u8,

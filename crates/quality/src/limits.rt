@@ -3,7 +3,7 @@ ghost use Rattle.std.specs.Prelude.{◌≡◌};
 ghost use Rattle.quality.specs.Limits.{warm};
 
 // Limits in offset binary, v + 32768 each.
-#[derive(Drop)]
+#[derive(Clone, Copy)]
 pub struct OffsetLimits {
     pub min2: u16,
     pub min1: u16,

@@ -1,5 +1,7 @@
 // The steps of "Settling a station" on one element's column: each makes a new column from the one that the step before left.
 // A cell's three numbers are stored in place: in a loop that is not unrolled, `put` would copy the column at every turn.
+#![tactic(auto)]
+
 ghost use Rattle.std.specs.Prelude.{◌≡◌, ◌<◌};
 ghost use Rattle.quality.specs.Coded.{cells, limits_of};
 ghost use Rattle.quality.specs.Steps.{range_column, dew_column, wind_column, suspect_at, time_cell, fill_cell, between};

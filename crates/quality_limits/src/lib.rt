@@ -1,4 +1,6 @@
 // The limits of the range step: a constant table of limit rows by element, climate row and season.
+#![tactic(auto)]
+
 ghost use Rattle.std.specs.Prelude.{◌≡◌, map, ◌<◌};
 ghost use Rattle.laws.specs.Table.{table};
 ghost use Rattle.quality.specs.Coded.{limits_of};

@@ -1,5 +1,7 @@
 // The four steps on a station's nine columns, in the elements' order T, D, P, W, C, V, R, X, M. Each step reads the columns that the step
 // before left and makes new ones.
+#![tactic(auto)]
+
 ghost use Rattle.std.specs.Prelude.{◌≡◌, ◌<◌};
 ghost use Rattle.quality.specs.Coded.{cells, sheet};
 ghost use Rattle.quality.specs.Settled.{time_of, fill_of, range, internal, time, fill, one_step, settled};

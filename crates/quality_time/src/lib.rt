@@ -1,4 +1,6 @@
 // The time and fill steps on a cell: a value beside its neighbours in time.
+#![tactic(auto)]
+
 ghost use Rattle.std.specs.Prelude.{◌≡◌, ◌≤◌, nat_abs};
 ghost use Rattle.quality.specs.Coded.{cell};
 ghost use Rattle.quality.specs.Steps.{spike_cell, time_cell, fill_cell};
@@ -24,6 +26,7 @@ fn mended(mends: bool, a: OffsetCell, x: OffsetCell, b: OffsetCell) -> OffsetCel
 }
 
 // The value x between its neighbours a and b in time: mended, discarded or kept.
+#[tactic(auto, unfolding(quality::specs::Steps::time_cell))]
 pub fn time_cell(mends: bool, a: OffsetCell, x: OffsetCell, b: OffsetCell) -> OffsetCell
     requires { nat_abs (cell x).value ≤ 32767 }
     ensures { cell result ≡ time_cell mends (cell a) (cell x) (cell b) }
@@ -40,6 +43,7 @@ pub fn time_cell(mends: bool, a: OffsetCell, x: OffsetCell, b: OffsetCell) -> Of
 }
 
 // The missing x between its neighbours a and b in time: filled by their mean.
+#[tactic(auto, unfolding(quality::specs::Steps::fill_cell))]
 pub fn fill_cell(a: OffsetCell, x: OffsetCell, b: OffsetCell) -> OffsetCell
     ensures { cell result ≡ fill_cell (cell a) (cell x) (cell b) }
 {

@@ -1,6 +1,8 @@
 // The rules of the calls as definitions (specs/), and proved of them (proofs/) demand 3, whom a text names, that a refusal changes no byte,
 // what settling in portions comes to, that the byte form of a store does not show, and the proof table. There is no code here but functions whose contracts are the theorems, so
 // that the check fails where a theorem is gone.
+#![tactic(auto)]
+
 ghost use Rattle.store_layout.specs.Form.{AnyTwoForms};
 ghost use Rattle.rules.specs.Forms.{SameCalls};
 ghost use Rattle.rules.specs.Isolation.{Isolated};

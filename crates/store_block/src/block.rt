@@ -15,14 +15,14 @@ use store_numbers::at::{COPY_IN, DD_IN, HEAD_LENGTH};
 use store_numbers::head::{head_at, put_head, unfiled};
 
 // A slot's own dd, or the copy that a settling under way reads.
-#[derive(Drop)]
+#[derive(Clone, Copy)]
 pub enum Dd {
     Own,
     Copy,
 }
 
 // The copies of dd: taken as a settling begins, cleared as it ends.
-#[derive(Drop)]
+#[derive(Clone, Copy)]
 pub enum Copies {
     Taken,
     Cleared,

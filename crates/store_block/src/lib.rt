@@ -1,2 +1,4 @@
 // A station's block of the store, read and written. Its entry is the matter of `store_entries`.
+#![tactic(auto)]
+
 pub mod block;

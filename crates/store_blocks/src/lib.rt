@@ -1,4 +1,6 @@
 // Whether a station's block is sound: its slot heads and cells, by document 01's "The store".
+#![tactic(auto)]
+
 ghost use Rattle.std.specs.Prelude.{◌≡◌, ◌+◌, ◌*◌, ◌≤◌, length};
 ghost use Rattle.laws.specs.All.{all};
 ghost use Rattle.store_layout.specs.Layout.{block_length, cell_element, head_length, cell_length, sheet_length, raw_from, head_at};

@@ -1,4 +1,6 @@
 // The cells of a station's block: where each lies, one read, one written.
+#![tactic(auto)]
+
 ghost use Rattle.std.specs.Prelude.{◌≡◌, ◌+◌, ◌<◌, ◌≤◌, length};
 ghost use Rattle.quality.specs.Cell.{slot};
 ghost use Rattle.quality.specs.Coded.{cell};
@@ -11,7 +13,7 @@ use store_numbers::at::{CELL_LENGTH, CHECKED_FROM, RAW_FROM};
 use store_numbers::write::put_four;
 
 // A block's two sheets of cells.
-#[derive(Drop)]
+#[derive(Clone, Copy)]
 pub enum Area {
     Raw,
     Checked,

@@ -1,4 +1,6 @@
 // The store's header and station entries: the date, a station's climate row and settled number, and where its block lies.
+#![tactic(auto)]
+
 ghost use Rattle.std.specs.Prelude.{◌≡◌, ◌+◌, ◌<◌, ◌≤◌, length};
 ghost use Rattle.store_layout.specs.Model.{station_at};
 ghost use Rattle.store_layout.specs.Layout.{word, count_at, header_length, block_length, block_at, decode};
@@ -12,7 +14,7 @@ use store_numbers::read::word_at;
 use store_numbers::write::put_word;
 
 // A date.
-#[derive(Drop)]
+#[derive(Clone, Copy)]
 pub struct Date {
     pub year: u32,
     pub month: u32,

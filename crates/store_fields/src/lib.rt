@@ -1,4 +1,6 @@
 // Whether the numbers of a slot head, of a cell and of a station's entry may stand in a store, by document 01's "The store".
+#![tactic(auto)]
+
 ghost use Rattle.std.specs.Prelude.{◌≡◌, ◌&&◌, ltb};
 ghost use Rattle.quality.specs.Valid.{is_cell};
 ghost use Rattle.store_layout.specs.Layout.{signed};
@@ -10,6 +12,7 @@ use quality::head::{HIGHEST_RANK, SlotHead};
 const DEW_POINT: usize = 1;
 
 // A slot head of a station with that settled number. From 2 on a settling is under way and the copy is a dd, below it is 0.
+#[tactic(auto, unfolding(store_layout::specs::Valid::is_head))]
 pub fn is_head(settled: u16, h: SlotHead) -> bool
     ensures { result ≡ is_head settled h }
 {
@@ -30,6 +33,7 @@ pub fn is_head(settled: u16, h: SlotHead) -> bool
 
 // A cell of an element, its value in two's complement, with the largest state but a humidity's, and the largest flag, that may stand
 // there. A humidity stands in D's cells alone.
+#[tactic(auto, using(store_layout::proofs::Numbers::percent_test, store_layout::proofs::Numbers::size_test, store_layout::proofs::Numbers::zero_test), unfolding(quality::specs::Valid::is_cell))]
 pub fn is_cell(element: usize, state: u8, flag: u8, value: u16, states: u8, flags: u8) -> bool
     ensures { result ≡ is_cell states flags element (record { state = state; flag = flag; value = signed value }) }
 {
@@ -48,6 +52,7 @@ pub fn is_cell(element: usize, state: u8, flag: u8, value: u16, states: u8, flag
 }
 
 // A station's entry, with a number above the one before.
+#[tactic(auto, unfolding(store_layout::specs::Valid::is_entry))]
 pub fn is_entry(last: u32, number: u32, row: u16, settled: u16) -> bool
     ensures { result ≡ (ltb last number && is_entry number row settled) }
 {

@@ -1,4 +1,6 @@
 // The bytes of a fresh store: the header, the stations' entries, and their empty blocks.
+#![tactic(auto)]
+
 ghost use Rattle.std.specs.Prelude.{◌≡◌, true, ◌++◌, ◌+◌, ◌≤◌, length, get_or};
 ghost use Rattle.std.proofs.lemmas.List.Edits.{sets};
 ghost use Rattle.store_layout.specs.Model.{unfiled, empty_block};

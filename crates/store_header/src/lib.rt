@@ -1,4 +1,6 @@
 // Whether a store's header is sound, by document 01's "The store".
+#![tactic(auto)]
+
 ghost use Rattle.std.specs.Prelude.{◌≡◌, ◌≤◌, length};
 ghost use Rattle.calendar.specs.Dates.{is_date};
 ghost use Rattle.store_layout.specs.Layout.{word, year_at, month_at, day_at, header_length};
@@ -22,6 +24,7 @@ fn is_date_there(store: &[u8]) -> bool
 }
 
 // The header, and that the buffer has the length that its count of stations asks.
+#[tactic(auto, unfolding(store_layout::specs::Sound::sound_header))]
 pub fn is_header(store: &[u8]) -> bool
     requires { header_length ≤ length store.now }
     ensures { result ≡ sound_header store.now }

@@ -42,7 +42,7 @@ abbrev pub entry_length : ℕ
 entry_length = 8
 
 -- in a block: "nine slot heads of 4 bytes .., then 81 raw and 81 checked cells"; S-3: "The slot head grows by a rank byte .. and a zero byte".
--- A head begins with filed; where in it i_r, t_r, dd, the rank and the last byte stand, S-6's copy of dd
+-- A head begins with filed; where in it iR, tR, dd, the rank and the last byte stand, S-6's copy of dd
 abbrev pub head_length : ℕ
 head_length = 6
 

@@ -5,7 +5,7 @@ use Rattle.laws.specs.Table.{table}
 use Rattle.quality.specs.Cell.{Cell, none}
 use Rattle.quality.specs.declared.head.SlotHead.{SlotHead}
 
--- A station's block: its nine slot heads ("filed 0 or 1; i_r 0 to 4, else 5; t_r 0 to 9; dd 0 to 36 or 99, else 100"; S-3: "a rank byte .. and a
+-- A station's block: its nine slot heads ("filed 0 or 1; iR 0 to 4, else 5; tR 0 to 9; dd 0 to 36 or 99, else 100"; S-3: "a rank byte .. and a
 -- zero byte"; S-6: each slot's dd is copied "to the last head byte"), and its raw and checked cells as sheets, nine columns in the elements'
 -- order each
 pub record Block : Type 0 where
@@ -27,7 +27,7 @@ pub record Store : Type 0 where
   pub day : ℕ
   pub stations : List Station
 
--- "all slots unfiled, with i_r 5, t_r 0, dd 100"; S-3: the rank "0 while unfiled"
+-- "all slots unfiled, with iR 5, tR 0, dd 100"; S-3: the rank "0 while unfiled"
 abbrev pub unfiled : SlotHead
 unfiled = record { filed = 0; ir = 5; tr = 0; dd = 100; rank = 0; copy = 0 }
 

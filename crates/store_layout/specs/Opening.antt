@@ -22,7 +22,7 @@ openable_in form size year month day numbers rows = can_open year month day numb
 abbrev pub openable : ℕ → ℕ → ℕ → ℕ → List ℕ → List ℕ → Bool
 openable = openable_in ours
 
--- "all slots unfiled, with i_r 5, t_r 0, dd 100, cells missing with flag 0, unsettled"
+-- "all slots unfiled, with iR 5, tR 0, dd 100, cells missing with flag 0, unsettled"
 unfoldable pub fresh : ℕ → ℕ → ℕ → List ℕ → List ℕ → Store
 fresh year month day numbers rows =
     record {

@@ -26,7 +26,7 @@ is_under_way settled = leb 2 settled
 abbrev pub is_copy : ℕ → ℕ → Bool
 is_copy settled copy = cond (is_under_way settled) (is_direction copy) (eqb copy 0)
 
--- "nine slot heads .. (filed 0 or 1; i_r 0 to 4, else 5; t_r 0 to 9; dd 0 to 36 or 99, else 100)"; S-3: "a rank byte (0 to 24, 0 while
+-- "nine slot heads .. (filed 0 or 1; iR 0 to 4, else 5; tR 0 to 9; dd 0 to 36 or 99, else 100)"; S-3: "a rank byte (0 to 24, 0 while
 -- unfiled)". Of a station with that settled number
 unfoldable pub is_head : ℕ → SlotHead → Bool
 is_head settled h =

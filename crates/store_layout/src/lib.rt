@@ -1,4 +1,6 @@
 // The store's numbers: big-endian words and longs, and the two forms of a signed value.
+#![tactic(auto)]
+
 ghost use Rattle.std.specs.Prelude.{◌≡◌, ◌+◌, ◌*◌, ◌/◌, ◌%◌, ◌<◌};
 ghost use Rattle.laws.specs.Offset.{value};
 ghost use Rattle.store_layout.specs.Layout.{signed, unsigned};

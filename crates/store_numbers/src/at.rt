@@ -29,7 +29,7 @@ pub const ROW_IN: usize = 4;
 
 pub const SETTLED_IN: usize = 6;
 
-// A slot head, which begins with filed, and in it i_r, t_r, dd, the rank and the copy of dd.
+// A slot head, which begins with filed, and in it iR, tR, dd, the rank and the copy of dd.
 pub const HEAD_LENGTH: usize = 6;
 
 pub const IR_IN: usize = 1;

@@ -1,2 +1,4 @@
 // Opening a store.
+#![tactic(auto)]
+
 pub mod open;

@@ -10,7 +10,7 @@ use store_numbers::at::{COUNT_AT, entry_at};
 use store_numbers::read::{long_at, word_at};
 
 // An unsound store; a station that is not in it; a station's index.
-#[derive(Drop)]
+#[derive(Clone, Copy)]
 pub enum Located {
     Unsound,
     Absent,

@@ -1,4 +1,6 @@
 // Which buffers are sound stores, and where a station lies in one.
+#![tactic(auto)]
+
 pub mod find;
 pub mod sound;
 mod stations;

@@ -1,5 +1,7 @@
 // A SYNOP report read: from the bytes of a text to the number that it is refused with, or to its station, day and hour and, unless
 // it is `NIL`, its indicators and its nine values.
+#![tactic(auto)]
+
 ghost use Rattle.std.specs.Prelude.{◌≡◌};
 ghost use Rattle.synop_text.specs.Kinds.{tokens};
 ghost use Rattle.synop_checks.specs.Refusal as refusals;
@@ -12,7 +14,7 @@ use synop_parts::{LATER_RAIN, PARTS, RAIN, STATION, TIME, VISIBILITY, WIND, firs
 use synop_text::{Cursor, Group, Token};
 
 // What a text is: refused with a number 1 to 5, a report that says nothing, or a whole one.
-#[derive(Drop)]
+#[derive(Clone, Copy)]
 pub enum Report {
     Refused(u8),
     Nil(Identification),
@@ -37,6 +39,7 @@ fn content(p: Place, kept: [Group; PARTS]) -> Report
 }
 
 // What the groups that were walked are: the first check that fails, or the content.
+#[tactic(auto, unfolding(crate::specs::Report::answered))]
 fn answer(p: Place, shaped: bool, ranged: bool, kept: [Group; PARTS]) -> Report
     ensures { reports.meaning result ≡ reports.answered p shaped ranged kept }
 {
@@ -56,6 +59,7 @@ fn answer(p: Place, shaped: bool, ranged: bool, kept: [Group; PARTS]) -> Report
 // ---- the walk
 
 // The groups of a text that passes checks 1 and 2, one after the other.
+#[tactic(auto, using(synop_parts::proofs::PartLaws::part_below))]
 fn walk(text: &[u8]) -> Report
     ensures { reports.meaning result ≡ reports.read (refusals.of_groups (tokens text.now)) (tokens text.now) }
 {

@@ -1,7 +1,10 @@
 // Document 01's checks 1 and 2, of the bytes of a text.
+#![tactic(auto)]
+
 ghost use Rattle.std.specs.Prelude.{◌≡◌};
 ghost use Rattle.synop_bytes.specs.Bytes as bytes;
 
+#[tactic(auto, unfolding(crate::specs::Bytes::is_known))]
 fn is_known(b: u8) -> bool
     ensures { result ≡ bytes.is_known b }
 {
@@ -39,6 +42,7 @@ fn are_known(s: &[u8]) -> bool
 }
 
 // The number of the first of checks 1 and 2 that fails, or 0.
+#[tactic(auto, unfolding(crate::specs::Bytes::of_bytes, crate::specs::Bytes::check1))]
 pub fn of_bytes(s: &[u8]) -> u8
     ensures { result ≡ bytes.of_bytes s.now }
 {

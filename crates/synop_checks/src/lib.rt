@@ -1,4 +1,6 @@
 // Document 01's checks 3 and 4 of one group after a place. Checks 1 and 2 are the matter of `synop_bytes`, 5 of `synop_order`.
+#![tactic(auto)]
+
 ghost use Rattle.std.specs.Prelude.{◌≡◌};
 ghost use Rattle.synop_checks.specs.Ranges as ranges;
 ghost use Rattle.synop_checks.specs.Shapes as shapes;
@@ -21,6 +23,7 @@ fn is_aaxx(g: Group) -> bool
     }
 }
 
+#[tactic(auto, unfolding(crate::specs::Shapes::are_digits))]
 fn are_digits(a: u8, b: u8, c: u8, d: u8, e: u8) -> bool
     ensures { result ≡ shapes.are_digits a b c d e }
 {
@@ -78,6 +81,7 @@ pub fn shaped(p: Place, g: Group) -> bool
 // ---- 4: the heading's ranges
 
 // YY.
+#[tactic(auto, unfolding(crate::specs::Ranges::is_day))]
 fn is_day(a: u8, b: u8) -> bool
     ensures { result ≡ ranges.is_day a b }
 {
@@ -88,6 +92,7 @@ fn is_day(a: u8, b: u8) -> bool
 }
 
 // GG.
+#[tactic(auto, unfolding(crate::specs::Ranges::is_hour))]
 fn is_hour(a: u8, b: u8) -> bool
     ensures { result ≡ ranges.is_hour a b }
 {
@@ -98,6 +103,7 @@ fn is_hour(a: u8, b: u8) -> bool
 }
 
 // iw.
+#[tactic(auto, unfolding(crate::specs::Ranges::is_unit))]
 fn is_unit(iw: u8) -> bool
     ensures { result ≡ ranges.is_unit iw }
 {
@@ -105,6 +111,7 @@ fn is_unit(iw: u8) -> bool
 }
 
 // YYGGiw.
+#[tactic(auto, unfolding(crate::specs::Ranges::is_time))]
 fn is_time(a: u8, b: u8, c: u8, d: u8, e: u8) -> bool
     ensures { result ≡ ranges.is_time a b c d e }
 {
@@ -112,6 +119,7 @@ fn is_time(a: u8, b: u8, c: u8, d: u8, e: u8) -> bool
 }
 
 // IIiii.
+#[tactic(auto, unfolding(crate::specs::Ranges::is_station))]
 fn is_station(a: u8, b: u8, c: u8, d: u8, e: u8) -> bool
     ensures { result ≡ ranges.is_station a b c d e }
 {

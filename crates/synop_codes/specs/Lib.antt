@@ -1,3 +1,3 @@
--- The values of the elements, and the code tables that give them: document 01, "Values", and the head's i_r and dd of "The store".
+-- The values of the elements, and the code tables that give them: document 01, "Values", and the head's iR and dd of "The store".
 pub mod Value
 pub mod Tables

@@ -1,4 +1,4 @@
--- The code tables: what a number in a group stands for, by document 01, "Values", and the head's i_r and dd by "The store". A
+-- The code tables: what a number in a group stands for, by document 01, "Values", and the head's iR and dd by "The store". A
 -- name ends in Of, since the number is that of certain digits; a sign, iw and PPPP's first digit are characters.
 -- Assumes nothing.
 use Rattle.std.specs.Prelude.{cond, ◌&&◌, ◌||◌, ℕ, ◌+◌, ◌-◌, ◌*◌, ◌/◌, leb, eqb, pos, neg_ℤ}
@@ -51,7 +51,7 @@ rain_of rrr =
     (cond (eqb rrr 990) (read (pos 0)) (read (pos (rrr - 990)))))
 
 -- ---- a slot's head
--- "i_r 0 to 4, else 5"
+-- "iR 0 to 4, else 5"
 unfoldable pub rain_indicator_of : ℕ → ℕ
 rain_indicator_of n = cond (leb n 4) n 5
 

@@ -1,18 +1,20 @@
 // The code tables: what a number that stands in a SYNOP group means as the value of an element, or in a slot's head. Which digits
 // give the number is the matter of `synop_figures`.
+#![tactic(auto)]
+
 ghost use Rattle.std.specs.Prelude.{◌≡◌, ◌<◌, pos, neg_ℤ};
 ghost use Rattle.synop_codes.specs.Value.{meaning, moisture, read};
 ghost use Rattle.synop_codes.specs.Tables as tables;
 
 // A value of an element: missing, or a number v of its unit, kept in offset binary as v + 32768.
-#[derive(Drop)]
+#[derive(Clone, Copy)]
 pub enum Value {
     Missing,
     Read(u16),
 }
 
 // What group 2 of section 1 gives: a dew point, as `Value::Read` has it, a humidity in percent (1 to 100), or nothing.
-#[derive(Drop)]
+#[derive(Clone, Copy)]
 pub enum Moisture {
     Nothing,
     DewPoint(u16),
@@ -38,6 +40,7 @@ fn below(n: u32) -> Value
 }
 
 // T, D, X and M, tenths of °C, from the sign's character and the number.
+#[tactic(auto, unfolding(crate::specs::Tables::temperature_of))]
 pub fn temperature_of(sign: u8, n: u32) -> Value
     requires { n < 1000 }
     ensures { meaning result ≡ tables.temperature_of sign n }
@@ -50,6 +53,7 @@ pub fn temperature_of(sign: u8, n: u32) -> Value
 }
 
 // A humidity in percent, from UUU of 29UUU.
+#[tactic(auto, unfolding(crate::specs::Tables::humidity_of))]
 fn humidity_of(uuu: u32) -> Moisture
     ensures { moisture result ≡ tables.humidity_of uuu }
 {
@@ -60,6 +64,7 @@ fn humidity_of(uuu: u32) -> Moisture
 }
 
 // D or a humidity, from the sign's character, which is 9 before a humidity, and the number.
+#[tactic(auto, unfolding(crate::specs::Tables::moisture_of))]
 pub fn moisture_of(sign: u8, n: u32) -> Moisture
     requires { n < 1000 }
     ensures { moisture result ≡ tables.moisture_of sign n }
@@ -74,6 +79,7 @@ pub fn moisture_of(sign: u8, n: u32) -> Moisture
 }
 
 // P, tenths of hPa, from the first character of PPPP and its number.
+#[tactic(auto, unfolding(crate::specs::Tables::pressure_of))]
 pub fn pressure_of(first: u8, n: u32) -> Value
     requires { n < 10000 }
     ensures { meaning result ≡ tables.pressure_of first n }
@@ -86,6 +92,7 @@ pub fn pressure_of(first: u8, n: u32) -> Value
 }
 
 // W, tenths of m/s, from iw and the number that ff or fff gives.
+#[tactic(auto, unfolding(crate::specs::Tables::wind_of))]
 pub fn wind_of(iw: u8, k: u32) -> Value
     requires { k < 1000 }
     ensures { meaning result ≡ tables.wind_of iw k }
@@ -102,6 +109,7 @@ pub fn wind_of(iw: u8, k: u32) -> Value
 }
 
 // C, eighths, from N.
+#[tactic(auto, unfolding(crate::specs::Tables::cloud_of))]
 pub fn cloud_of(n: u32) -> Value
     ensures { meaning result ≡ tables.cloud_of n }
 {
@@ -112,6 +120,7 @@ pub fn cloud_of(n: u32) -> Value
 }
 
 // V, hundreds of metres, from VV.
+#[tactic(auto, unfolding(crate::specs::Tables::visibility_of))]
 pub fn visibility_of(vv: u32) -> Value
     ensures { meaning result ≡ tables.visibility_of vv }
 {
@@ -127,6 +136,7 @@ pub fn visibility_of(vv: u32) -> Value
 }
 
 // R, tenths of mm, from RRR.
+#[tactic(auto, unfolding(crate::specs::Tables::rain_of))]
 pub fn rain_of(rrr: u32) -> Value
     requires { rrr < 1000 }
     ensures { meaning result ≡ tables.rain_of rrr }
@@ -142,7 +152,8 @@ pub fn rain_of(rrr: u32) -> Value
 
 // ---- a slot's head
 
-// i_r: 0 to 4, else 5.
+// iR: 0 to 4, else 5.
+#[tactic(auto, unfolding(crate::specs::Tables::rain_indicator_of))]
 pub fn indicator_of(n: u32) -> u8
     ensures { result ≡ tables.rain_indicator_of n }
 {
@@ -153,6 +164,7 @@ pub fn indicator_of(n: u32) -> u8
 }
 
 // dd: 0 to 36 or 99, else 100.
+#[tactic(auto, unfolding(crate::specs::Tables::wind_direction_of))]
 pub fn direction_of(n: u32) -> u8
     ensures { result ≡ tables.wind_direction_of n }
 {

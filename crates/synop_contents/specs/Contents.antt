@@ -35,7 +35,7 @@ identification_of time station =
       hour = two_of (characters_of time).c (characters_of time).d;
     }
 
--- i_r of iRixhVV, whether 6RRRtR was sent, its t_r, dd of Nddff
+-- iR of iRixhVV, whether 6RRRtR was sent, its tR, dd of Nddff
 unfoldable pub indicators_of : Group → Group → Group → Indicators
 indicators_of visibility wind rain =
     record {

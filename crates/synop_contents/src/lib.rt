@@ -1,5 +1,7 @@
 // What the groups of a report hold: who reports and for when, the indicators and the nine values. Which group is which is the
 // matter of `synop_parts`.
+#![tactic(auto)]
+
 ghost use Rattle.std.specs.Prelude.{◌≡◌};
 ghost use Rattle.synop_codes.specs.Value.{meaning};
 ghost use Rattle.synop_contents.specs.Contents as contents;
@@ -13,15 +15,15 @@ use synop_parts::{
 use synop_text::Group;
 
 // Who reports, and for when: IIiii, YY and GG.
-#[derive(Drop)]
+#[derive(Clone, Copy)]
 pub struct Identification {
     pub station: u32,
     pub day: u8,
     pub hour: u8,
 }
 
-// What a report gives for the head of its slot: i_r, whether a group 6 was sent, t_r and dd.
-#[derive(Drop)]
+// What a report gives for the head of its slot: iR, whether a group 6 was sent, tR and dd.
+#[derive(Clone, Copy)]
 pub struct Indicators {
     pub rain_indicator: u8,
     pub rain_sent: bool,
@@ -30,7 +32,7 @@ pub struct Indicators {
 }
 
 // The nine elements, in the order of the store; the second is D, or a humidity in its place.
-#[derive(Drop)]
+#[derive(Clone, Copy)]
 pub struct Values {
     pub temperature: Value,
     pub moisture: Moisture,
@@ -53,6 +55,7 @@ fn number_of(n: Number) -> u32
 }
 
 // A number of two digits.
+#[tactic(auto, unfolding(crate::specs::Contents::two_of))]
 fn two_of(a: u8, b: u8) -> u8
     ensures { result ≡ contents.two_of a b }
 {
@@ -60,12 +63,14 @@ fn two_of(a: u8, b: u8) -> u8
 }
 
 // IIiii.
+#[tactic(auto, unfolding(crate::specs::Contents::station_of))]
 fn station_of(x: Characters) -> u32
     ensures { result ≡ contents.station_of x }
 {
     10 * number_of(synop_figures::four(x.a, x.b, x.c, x.d)) + number_of(synop_figures::digit(x.e))
 }
 
+#[tactic(auto, unfolding(crate::specs::Contents::identification_of))]
 pub fn identification_of(time: Group, station: Group) -> Identification
     ensures { result ≡ contents.identification_of time station }
 {
@@ -77,6 +82,7 @@ pub fn identification_of(time: Group, station: Group) -> Identification
     }
 }
 
+#[tactic(auto, unfolding(crate::specs::Contents::indicators_of))]
 pub fn indicators_of(visibility: Group, wind: Group, rain: Group) -> Indicators
     ensures { result ≡ contents.indicators_of visibility wind rain }
 {
@@ -89,6 +95,7 @@ pub fn indicators_of(visibility: Group, wind: Group, rain: Group) -> Indicators
 }
 
 // W, from 00fff where it stands.
+#[tactic(auto, unfolding(crate::specs::Contents::wind_of))]
 fn wind_of(time: Group, wind: Group, gale: Group) -> Value
     ensures { meaning result ≡ contents.wind_of time wind gale }
 {
@@ -99,6 +106,7 @@ fn wind_of(time: Group, wind: Group, gale: Group) -> Value
 }
 
 // The nine elements of a report's parts, where rain is read from the group `rain`.
+#[tactic(auto, unfolding(crate::specs::Contents::values_of))]
 pub fn values_of(kept: [Group; PARTS], rain: Group) -> Values
     ensures { contents.listed result ≡ contents.values_of kept rain }
 {

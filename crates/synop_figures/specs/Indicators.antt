@@ -1,4 +1,4 @@
--- What a slot's head keeps, from a group's characters: i_r, t_r and dd, by document 01, "The store" and "Values".
+-- What a slot's head keeps, from a group's characters: iR, tR and dd, by document 01, "The store" and "Values".
 -- Assumes nothing.
 use Rattle.std.specs.Prelude.{ℕ}
 use Rattle.synop_codes.specs.Value.{Value, missing, read, humidity}
@@ -12,11 +12,11 @@ rain_indicator c = given (digit c) 5 rain_indicator_of
 unfoldable pub wind_direction : ℕ → ℕ → ℕ
 wind_direction a b = given (two a b) 100 wind_direction_of
 
--- t_r 0 to 9; "t_r `/` .. : t_r kept as 0"
+-- tR 0 to 9; "tR `/` .. : tR kept as 0"
 unfoldable pub rain_duration_of : ℕ → ℕ
 rain_duration_of t = given (digit t) 0 (λ n. n)
 
--- "R missing: t_r kept as 0"; R is no humidity
+-- "R missing: tR kept as 0"; R is no humidity
 abbrev pub kept : Value → ℕ → ℕ
 kept missing t = 0
 kept (read r) t = t

@@ -1,4 +1,4 @@
--- What one group means, by its characters: document 01, "Values", and the head's i_r, t_r and dd of "The store".
+-- What one group means, by its characters: document 01, "Values", and the head's iR, tR and dd of "The store".
 -- Assumes nothing.
 use Rattle.std.specs.Prelude.{ℕ}
 use Rattle.synop_codes.specs.Value.{Value}
@@ -47,11 +47,11 @@ unfoldable pub rain : Group → Value
 rain g = elements.rain (characters_of g).b (characters_of g).c (characters_of g).d
 
 -- ---- a slot's head
--- i_r of iRixhVV
+-- iR of iRixhVV
 unfoldable pub rain_indicator : Group → ℕ
 rain_indicator g = indicators.rain_indicator (characters_of g).a
 
--- t_r of 6RRRtR
+-- tR of 6RRRtR
 unfoldable pub rain_duration : Group → ℕ
 rain_duration g = indicators.rain_duration (characters_of g).b (characters_of g).c (characters_of g).d (characters_of g).e
 

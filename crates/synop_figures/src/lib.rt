@@ -1,6 +1,8 @@
 // What one SYNOP group means: the numbers that its figures give, and by the code tables the values of the elements and what a
 // slot's head keeps. Which group is which is found elsewhere. Every group is answered: a character that should be a digit and is
 // none counts as `/`.
+#![tactic(auto)]
+
 ghost use Rattle.std.specs.Prelude.{◌≡◌};
 ghost use Rattle.synop_codes.specs.Value.{meaning, moisture};
 ghost use Rattle.synop_figures.specs.Digits as digits;
@@ -14,7 +16,7 @@ use synop_codes::{
 use synop_text::Group;
 
 // What characters give that should be digits: their number, or that one of them is no digit, as `/`.
-#[derive(Drop)]
+#[derive(Clone, Copy)]
 pub enum Number {
     Slash,
     Digits(u32),
@@ -48,18 +50,21 @@ fn joined(n: Number, d: Number) -> Number
 }
 
 // The numbers of two, three and four digits.
+#[tactic(auto, unfolding(crate::specs::Digits::two))]
 pub fn two(a: u8, b: u8) -> Number
     ensures { result ≡ digits.two a b }
 {
     joined(digit(a), digit(b))
 }
 
+#[tactic(auto, unfolding(crate::specs::Digits::three))]
 fn three(a: u8, b: u8, c: u8) -> Number
     ensures { result ≡ digits.three a b c }
 {
     joined(two(a, b), digit(c))
 }
 
+#[tactic(auto, unfolding(crate::specs::Digits::four))]
 pub fn four(a: u8, b: u8, c: u8, d: u8) -> Number
     ensures { result ≡ digits.four a b c d }
 {
@@ -69,7 +74,7 @@ pub fn four(a: u8, b: u8, c: u8, d: u8) -> Number
 // ---- the characters of a group
 
 // The five characters of a group.
-#[derive(Drop)]
+#[derive(Clone, Copy)]
 pub struct Characters {
     pub a: u8,
     pub b: u8,
@@ -88,6 +93,7 @@ const NO_CHARACTERS: Characters = Characters {
 };
 
 // The characters of a group of five.
+#[tactic(auto, unfolding(crate::specs::OneGroup::characters_of))]
 pub fn characters_of(g: Group) -> Characters
     ensures { result ≡ group.characters_of g }
 {
@@ -103,6 +109,7 @@ pub fn characters_of(g: Group) -> Characters
 // ---- values of the elements
 
 // T, X and M, from 1sTTT or 2sTTT: tenths of °C.
+#[tactic(auto, unfolding(crate::specs::OneGroup::temperature, crate::specs::Elements::temperature))]
 pub fn temperature(g: Group) -> Value
     ensures { meaning result ≡ group.temperature g }
 {
@@ -114,6 +121,7 @@ pub fn temperature(g: Group) -> Value
 }
 
 // D, from 2sTTT: tenths of °C; or a humidity in percent, from 29UUU.
+#[tactic(auto, unfolding(crate::specs::OneGroup::moisture, crate::specs::Elements::moisture))]
 pub fn moisture(g: Group) -> Moisture
     ensures { moisture result ≡ group.moisture g }
 {
@@ -125,6 +133,7 @@ pub fn moisture(g: Group) -> Moisture
 }
 
 // P, from 4PPPP: tenths of hPa.
+#[tactic(auto, unfolding(crate::specs::OneGroup::pressure, crate::specs::Elements::pressure))]
 pub fn pressure(g: Group) -> Value
     ensures { meaning result ≡ group.pressure g }
 {
@@ -136,6 +145,7 @@ pub fn pressure(g: Group) -> Value
 }
 
 // W, from iw of YYGGiw and ff of Nddff: tenths of m/s.
+#[tactic(auto, unfolding(crate::specs::OneGroup::wind_ff, crate::specs::Elements::wind_ff))]
 pub fn wind_ff(time: Group, wind: Group) -> Value
     ensures { meaning result ≡ group.wind_ff time wind }
 {
@@ -148,6 +158,7 @@ pub fn wind_ff(time: Group, wind: Group) -> Value
 }
 
 // W, from iw and fff of 00fff.
+#[tactic(auto, unfolding(crate::specs::OneGroup::wind_fff, crate::specs::Elements::wind_fff))]
 pub fn wind_fff(time: Group, gale: Group) -> Value
     ensures { meaning result ≡ group.wind_fff time gale }
 {
@@ -160,6 +171,7 @@ pub fn wind_fff(time: Group, gale: Group) -> Value
 }
 
 // C, from N of Nddff: eighths.
+#[tactic(auto, unfolding(crate::specs::OneGroup::cloud, crate::specs::Elements::cloud))]
 pub fn cloud(wind: Group) -> Value
     ensures { meaning result ≡ group.cloud wind }
 {
@@ -170,6 +182,7 @@ pub fn cloud(wind: Group) -> Value
 }
 
 // V, from VV of iRixhVV: hundreds of metres.
+#[tactic(auto, unfolding(crate::specs::OneGroup::visibility, crate::specs::Elements::visibility))]
 pub fn visibility(g: Group) -> Value
     ensures { meaning result ≡ group.visibility g }
 {
@@ -181,6 +194,7 @@ pub fn visibility(g: Group) -> Value
 }
 
 // R, from 6RRRtR: tenths of mm.
+#[tactic(auto, unfolding(crate::specs::OneGroup::rain, crate::specs::Elements::rain))]
 pub fn rain(g: Group) -> Value
     ensures { meaning result ≡ group.rain g }
 {
@@ -193,6 +207,7 @@ pub fn rain(g: Group) -> Value
 
 // ---- a slot's head
 
+#[tactic(auto, unfolding(crate::specs::Indicators::rain_duration_of))]
 fn duration_of(t: u8) -> u8
     ensures { result ≡ indicators.rain_duration_of t }
 {
@@ -202,7 +217,8 @@ fn duration_of(t: u8) -> u8
     }
 }
 
-// t_r, from 6RRRtR: 0 where it is `/` or R is missing.
+// tR, from 6RRRtR: 0 where it is `/` or R is missing.
+#[tactic(auto, unfolding(crate::specs::OneGroup::rain_duration, crate::specs::Indicators::rain_duration, crate::specs::OneGroup::rain))]
 pub fn rain_duration(g: Group) -> u8
     ensures { result ≡ group.rain_duration g }
 {
@@ -212,7 +228,8 @@ pub fn rain_duration(g: Group) -> u8
     }
 }
 
-// i_r, from iRixhVV: 0 to 4, else 5.
+// iR, from iRixhVV: 0 to 4, else 5.
+#[tactic(auto, unfolding(crate::specs::OneGroup::rain_indicator, crate::specs::Indicators::rain_indicator))]
 pub fn rain_indicator(g: Group) -> u8
     ensures { result ≡ group.rain_indicator g }
 {
@@ -223,6 +240,7 @@ pub fn rain_indicator(g: Group) -> u8
 }
 
 // dd, from Nddff: 0 to 36 or 99, else 100.
+#[tactic(auto, unfolding(crate::specs::OneGroup::wind_direction, crate::specs::Indicators::wind_direction))]
 pub fn wind_direction(wind: Group) -> u8
     ensures { result ≡ group.wind_direction wind }
 {

@@ -1,11 +1,13 @@
 // The order of the groups of a report, document 01's check 5: the place of each group, from the place of the one before.
+#![tactic(auto)]
+
 ghost use Rattle.std.specs.Prelude.{◌≡◌};
 ghost use Rattle.synop_order.specs.Places as places;
 
 use synop_text::Group;
 
 // Where in a report a group stands: what it was taken for.
-#[derive(Drop)]
+#[derive(Clone, Copy)]
 pub enum Place {
     // Before the first group.
     Start,
@@ -50,6 +52,7 @@ pub fn begun(p: Place) -> bool
     }
 }
 
+#[tactic(auto, unfolding(crate::specs::Places::aaxx_after))]
 fn aaxx_after(p: Place) -> Place
     ensures { result ≡ places.aaxx_after p }
 {
@@ -97,6 +100,7 @@ fn section_of(p: Place) -> u8
 }
 
 // The section m after section n.
+#[tactic(auto, unfolding(crate::specs::Places::opened))]
 fn opened(n: u8, m: u8) -> Place
     ensures { result ≡ places.opened n m }
 {
@@ -108,6 +112,7 @@ fn opened(n: u8, m: u8) -> Place
 }
 
 // A group of section 1 after one that begins with `last`.
+#[tactic(auto, unfolding(crate::specs::Places::ordered))]
 fn ordered(last: u8, a: u8, b: u8, c: u8) -> Place
     ensures { result ≡ places.ordered last a b c }
 {
@@ -122,6 +127,7 @@ fn ordered(last: u8, a: u8, b: u8, c: u8) -> Place
 }
 
 // The group right after Nddff.
+#[tactic(auto, unfolding(crate::specs::Places::first_of_one))]
 fn first_of_one(strong: bool, a: u8, b: u8, c: u8) -> Place
     ensures { result ≡ places.first_of_one strong a b c }
 {
@@ -191,6 +197,7 @@ pub fn is_nil(p: Place) -> bool
 }
 
 // Whether a report may end with a group at this place.
+#[tactic(auto, unfolding(crate::specs::Places::complete))]
 pub fn complete(p: Place) -> bool
     ensures { result ≡ places.complete p }
 {

@@ -1,4 +1,6 @@
 // Which group of a report is which: the parts that are read, each by a number, found by the places of the groups.
+#![tactic(auto)]
+
 ghost use Rattle.std.specs.Prelude.{◌≡◌};
 ghost use Rattle.synop_parts.specs.Parts as parts;
 
@@ -61,6 +63,7 @@ pub fn is_sent(g: Group) -> bool
     }
 }
 
+#[tactic(auto, unfolding(crate::specs::Parts::of_one))]
 fn of_one(d: u8) -> usize
     ensures { result ≡ parts.of_one d }
 {
@@ -73,6 +76,7 @@ fn of_one(d: u8) -> usize
     }
 }
 
+#[tactic(auto, unfolding(crate::specs::Parts::of_three))]
 fn of_three(a: u8) -> usize
     ensures { result ≡ parts.of_three a }
 {
@@ -96,6 +100,7 @@ fn in_three(g: Group) -> usize
     }
 }
 
+#[tactic(auto, unfolding(crate::specs::Parts::of_later))]
 fn of_later(n: u8, run: bool, g: Group) -> usize
     ensures { result ≡ parts.of_later n run g }
 {

@@ -1,11 +1,13 @@
 // The text of a report as groups. A cursor walks the groups, one step a group, and each group is of a kind.
+#![tactic(auto)]
+
 ghost use Rattle.std.specs.Prelude.{◌≡◌, ◌≤◌, length};
 ghost use Rattle.synop_text.specs.Characters as characters;
 ghost use Rattle.synop_text.specs.Kinds as kinds;
 ghost use Rattle.synop_text.specs.Walk.{Skipped, Ended, Stepped, Taken};
 
 // What kind of group it is.
-#[derive(Drop)]
+#[derive(Clone, Copy)]
 pub enum Group {
     // None of the kinds below. It stands first so that it is also what a list of groups has past its end.
     Other,
@@ -18,13 +20,13 @@ pub enum Group {
 }
 
 // A place in the text between two groups.
-#[derive(Drop)]
+#[derive(Clone, Copy)]
 pub struct Cursor {
     pub at: usize,
 }
 
 // One step of the cursor: the next group's bounds and the cursor after it.
-#[derive(Drop)]
+#[derive(Clone, Copy)]
 pub enum Step {
     Group {
         start: usize,
@@ -35,7 +37,7 @@ pub enum Step {
 }
 
 // The same with the group's kind in place of its bounds.
-#[derive(Drop)]
+#[derive(Clone, Copy)]
 pub enum Token {
     Group(Group, Cursor),
     End,
@@ -64,6 +66,7 @@ fn is_figure(b: u8) -> bool
 
 // ---- kinds
 
+#[tactic(auto, unfolding(crate::specs::Kinds::of_three))]
 fn of_three(a: u8, b: u8, c: u8) -> Group
     ensures { result ≡ kinds.of_three a b c }
 {
@@ -86,6 +89,7 @@ fn of_three(a: u8, b: u8, c: u8) -> Group
     Group::Other
 }
 
+#[tactic(auto, unfolding(crate::specs::Kinds::of_four))]
 fn of_four(a: u8, b: u8, c: u8, d: u8) -> Group
     ensures { result ≡ kinds.of_four a b c d }
 {
@@ -96,12 +100,14 @@ fn of_four(a: u8, b: u8, c: u8, d: u8) -> Group
     Group::Other
 }
 
+#[tactic(auto, unfolding(crate::specs::Characters::are_figures))]
 fn are_figures(a: u8, b: u8, c: u8, d: u8, e: u8) -> bool
     ensures { result ≡ characters.are_figures a b c d e }
 {
     is_figure(a) & is_figure(b) & is_figure(c) & is_figure(d) & is_figure(e)
 }
 
+#[tactic(auto, unfolding(crate::specs::Kinds::of_five))]
 fn of_five(a: u8, b: u8, c: u8, d: u8, e: u8) -> Group
     ensures { result ≡ kinds.of_five a b c d e }
 {
@@ -112,6 +118,7 @@ fn of_five(a: u8, b: u8, c: u8, d: u8, e: u8) -> Group
 }
 
 // The kind of a group, by its characters.
+#[tactic(auto, using(crate::proofs::Lengths::three, crate::proofs::Lengths::four, crate::proofs::Lengths::five, crate::proofs::Lengths::others))]
 pub fn kind_of(g: &[u8]) -> Group
     ensures { result ≡ kinds.kind_of g.now }
 {

@@ -4,6 +4,7 @@ ghost use Rattle.std.specs.Prelude.{◌<◌};
 use crate::cells::{M, O, column_of};
 use crate::show::column;
 use quality_columns::{fill_column, time_column};
+use std::io;
 
 const COLUMNS: [[u16; 9]; 17] = [
     [O + 60, O - 70, O + 80, M, O + 60, O + 161, O + 61, M, O], // mended; kept
@@ -52,16 +53,17 @@ fn given(i: usize) -> [u16; 9]
 }
 
 // A column, after the time step where the element mends and where it does not, and after the fill step.
-fn show_steps(v: [u16; 9]) {
+fn show_steps(rt: &impl Print, v: [u16; 9]) -> io::Result<()> {
     let c = column_of(v);
-    column(c);
-    column(time_column(true, c));
-    column(time_column(false, c));
-    column(fill_column(c));
+    column(rt, c)?;
+    column(rt, time_column(true, c))?;
+    column(rt, time_column(false, c))?;
+    column(rt, fill_column(c))
 }
 
-pub fn show_columns() {
+pub fn show_columns(rt: &impl Print) -> io::Result<()> {
     for i in 0..17 {
-        show_steps(given(i));
+        show_steps(rt, given(i))?;
     }
+    Ok(())
 }

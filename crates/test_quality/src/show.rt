@@ -1,41 +1,39 @@
 // Printing. A line begins with a word, and each other item with a space.
-use libc::STDOUT_FILENO;
 use quality::column::{Column, OffsetCell, at};
+use std::io;
 
-pub fn word(text: &[u8]) {
-    io::write_all(STDOUT_FILENO, text);
+pub fn word(rt: &impl Print, text: &[u8]) -> io::Result<()> {
+    rt.write_all(text)
 }
 
-pub fn end_line() {
-    word(b"\n");
+pub fn end_line(rt: &impl Print) -> io::Result<()> {
+    word(rt, b"\n")
 }
 
-pub fn number(n: u64) {
-    word(b" ");
-    io::print_decimal(STDOUT_FILENO, n);
+pub fn number(rt: &impl Print, n: u64) -> io::Result<()> {
+    print!(rt; " {n}")
 }
 
 // A value, given in offset binary.
-pub fn value(v: u16) {
+pub fn value(rt: &impl Print, v: u16) -> io::Result<()> {
     if v < 32768 {
-        word(b" -");
-        io::print_decimal(STDOUT_FILENO, (32768 - v) as u64);
+        print!(rt; " -{}", 32768 - v)
     } else {
-        number((v - 32768) as u64);
+        number(rt, (v - 32768) as u64)
     }
 }
 
-pub fn cell(d: OffsetCell) {
-    number(d.state as u64);
-    number(d.flag as u64);
-    value(d.value);
+pub fn cell(rt: &impl Print, d: OffsetCell) -> io::Result<()> {
+    number(rt, d.state as u64)?;
+    number(rt, d.flag as u64)?;
+    value(rt, d.value)
 }
 
 // A column on a line of its own.
-pub fn column(c: Column) {
-    word(b"column");
+pub fn column(rt: &impl Print, c: Column) -> io::Result<()> {
+    word(rt, b"column")?;
     for k in 0..9 {
-        cell(at(c, k));
+        cell(rt, at(c, k))?;
     }
-    end_line();
+    end_line(rt)
 }

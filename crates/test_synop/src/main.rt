@@ -1,126 +1,122 @@
 // Reads texts from standard input, a line each, in which `~` stands for LF and `^` for CR, and writes a line for each: the number
-// that it is refused with; or `NIL`, its station, day and hour; or these with i_r, t_r (`-` where R is absent from the report), dd and T, D, P, W,
+// that it is refused with; or `NIL`, its station, day and hour; or these with iR, tR (`-` where R is absent from the report), dd and T, D, P, W,
 // C, V, R, X, M, `-` for a missing one, and in the place of D a humidity with `%` after it.
+#![tactic(auto)]
+
+use std::io::Result;
 use synop::Report;
 use synop_codes::{Moisture, Value};
 use synop_contents::{Identification, Indicators, Values};
 
-fn space() {
-    io::write_all(1, b" ");
+// Standard input, of which at most a large buffer is read.
+const INPUT: i32 = 0;
+
+fn space(rt: &impl Print) -> Result<()> {
+    print!(rt; " ")
 }
 
-fn number(n: u32) {
-    space();
-    io::print_decimal(1, n as u64);
+fn number(rt: &impl Print, n: u32) -> Result<()> {
+    space(rt)?;
+    print!(rt; "{n}")
 }
 
 // A zero before a number that is below `least`.
-fn padded(n: u32, least: u32) {
+fn padded(rt: &impl Print, n: u32, least: u32) -> Result<()> {
     if n < least {
-        io::write_all(1, b"0");
+        print!(rt; "0")?;
     }
+    Ok(())
 }
 
-fn heading(h: Identification) {
-    padded(h.station, 10000);
-    padded(h.station, 1000);
-    padded(h.station, 100);
-    padded(h.station, 10);
-    io::print_decimal(1, h.station as u64);
-    space();
-    padded(h.day as u32, 10);
-    io::print_decimal(1, h.day as u64);
-    space();
-    padded(h.hour as u32, 10);
-    io::print_decimal(1, h.hour as u64);
+fn heading(rt: &impl Print, h: Identification) -> Result<()> {
+    let station = h.station;
+    let day = h.day;
+    let hour = h.hour;
+    padded(rt, station, 10000)?;
+    padded(rt, station, 1000)?;
+    padded(rt, station, 100)?;
+    padded(rt, station, 10)?;
+    print!(rt; "{station}")?;
+    space(rt)?;
+    padded(rt, day as u32, 10)?;
+    print!(rt; "{day}")?;
+    space(rt)?;
+    padded(rt, hour as u32, 10)?;
+    print!(rt; "{hour}")
 }
 
-fn head(h: Indicators) {
-    number(h.rain_indicator as u32);
+fn head(rt: &impl Print, h: Indicators) -> Result<()> {
+    number(rt, h.rain_indicator as u32)?;
     if h.rain_sent {
-        number(h.rain_duration as u32);
+        number(rt, h.rain_duration as u32)?;
     } else {
-        io::write_all(1, b" -");
+        print!(rt; " -")?;
     }
-    number(h.wind_direction as u32);
+    number(rt, h.wind_direction as u32)
 }
 
-fn value(v: Value) {
+fn value(rt: &impl Print, v: Value) -> Result<()> {
     match v {
-        Value::Missing => {
-            io::write_all(1, b" -");
-        }
+        Value::Missing => print!(rt; " -"),
         Value::Read(n) => {
             if n < 32768 {
-                io::write_all(1, b" -");
-                io::print_decimal(1, (32768 - n) as u64);
+                let size = 32768 - n;
+                print!(rt; " -{size}")
             } else {
-                number((n - 32768) as u32);
+                number(rt, (n - 32768) as u32)
             }
         }
     }
 }
 
-fn moisture(m: Moisture) {
+fn moisture(rt: &impl Print, m: Moisture) -> Result<()> {
     match m {
-        Moisture::Nothing => value(Value::Missing),
-        Moisture::DewPoint(n) => value(Value::Read(n)),
+        Moisture::Nothing => value(rt, Value::Missing),
+        Moisture::DewPoint(n) => value(rt, Value::Read(n)),
         Moisture::Humidity(u) => {
-            number(u as u32);
-            io::write_all(1, b"%");
+            number(rt, u as u32)?;
+            print!(rt; "%")
         }
     }
 }
 
-fn values(v: Values) {
-    let temperature = v.temperature;
-    let second = v.moisture;
-    let pressure = v.pressure;
-    let wind = v.wind;
-    let cloud = v.cloud;
-    let visibility = v.visibility;
-    let rain = v.rain;
-    let maximum = v.maximum;
-    let minimum = v.minimum;
-    value(temperature);
-    moisture(second);
-    value(pressure);
-    value(wind);
-    value(cloud);
-    value(visibility);
-    value(rain);
-    value(maximum);
-    value(minimum);
+fn values(rt: &impl Print, v: Values) -> Result<()> {
+    value(rt, v.temperature)?;
+    moisture(rt, v.moisture)?;
+    value(rt, v.pressure)?;
+    value(rt, v.wind)?;
+    value(rt, v.cloud)?;
+    value(rt, v.visibility)?;
+    value(rt, v.rain)?;
+    value(rt, v.maximum)?;
+    value(rt, v.minimum)
 }
 
-fn answer(text: &[u8]) {
+fn answer(rt: &impl Print, text: &[u8]) -> Result<()> {
     match synop::read(text) {
-        Report::Refused(n) => {
-            io::print_decimal(1, n as u64);
-        }
+        Report::Refused(n) => print!(rt; "{n}")?,
         Report::Nil(h) => {
-            io::write_all(1, b"NIL ");
-            heading(h);
+            print!(rt; "NIL ")?;
+            heading(rt, h)?;
         }
         Report::Whole(h, d, v) => {
-            heading(h);
-            head(d);
-            values(v);
+            heading(rt, h)?;
+            head(rt, d)?;
+            values(rt, v)?;
         }
     }
-    io::write_all(1, b"\n");
+    print!(rt; "\n")
 }
 
 // A line that begins with `#` is a heading, and is written as it is.
-fn line(text: &[u8]) {
+fn line(rt: &impl Print, text: &[u8]) -> Result<()> {
     if 0 < text.len() {
         if text[0] == b'#' {
-            io::write_all(1, text);
-            io::write_all(1, b"\n");
-            return;
+            rt.write_all(text)?;
+            return print!(rt; "\n");
         }
     }
-    answer(text);
+    answer(rt, text)
 }
 
 // What a character of a line stands for.
@@ -132,24 +128,22 @@ fn meant(b: u8) -> u8 {
     }
 }
 
-fn lines(buf: &mut [u8]) {
+fn lines(rt: &impl Print, buf: &mut [u8]) -> Result<()> {
     let mut start = 0;
-    let mut i = 0;
-    while i < buf.len() {
+    for i in 0..buf.len() {
         let b = buf[i];
-        let next = i + 1;
         if b == b'\n' {
-            line(&buf[start..i]);
-            start = next;
+            line(rt, &buf[start..i])?;
+            start = i + 1;
         } else {
             buf[i] = meant(b);
         }
-        i = next;
     }
+    Ok(())
 }
 
-fn main() {
+fn main(rt: HostRuntime) -> Result<()> {
     let mut space = io::large_buffer();
-    let n = io::read_full(0, &mut space);
-    lines(&mut space[..n]);
+    let n = io::read_full(INPUT, &mut space);
+    lines(&rt, &mut space[..n])
 }

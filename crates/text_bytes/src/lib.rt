@@ -1,4 +1,6 @@
 // The bytes of a text: one searched, and bytes written into a lent buffer.
+#![tactic(auto)]
+
 ghost use Rattle.std.specs.Prelude.{[], ◌∷◌, ◌≤◌, length};
 ghost use Rattle.text_bytes.specs.Reached.{Reached};
 ghost use Rattle.text_bytes.specs.Written.{Adds};

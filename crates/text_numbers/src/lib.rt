@@ -1,5 +1,7 @@
 // Numbers in decimal, put into a buffer. As in `text_bytes`, each goes behind the bytes that are there, as far as there is room, and the answer
 // is how many are there then.
+#![tactic(auto)]
+
 ghost use Rattle.std.specs.Prelude.{◌≡◌, [], ◌∷◌, ℕ};
 ghost use Rattle.text_bytes.specs.Written.{Adds};
 ghost use Rattle.text_numbers.specs.Numbers as numbers;

@@ -1,5 +1,7 @@
 // The vapour pressure at a dew point, looked up in a table (`table`). A dew point is given in tenths of a degree, in offset binary
 // (v + 32768). What the table looks like is known here alone. The crate `vapour_generator` computes the table's numbers.
+#![tactic(auto)]
+
 mod answer;
 mod table;
 

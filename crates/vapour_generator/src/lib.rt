@@ -1,4 +1,6 @@
 // Document 02, S-1: the table's numbers from document 01's recurrence, so that a caller sees where they come from.
+#![tactic(auto)]
+
 mod recurrence;
 
 ghost use Rattle.vapour.specs.Generator.{Generated};
@@ -8,6 +10,7 @@ use vapour::{Filling, PLACES};
 
 // Fills a slice of 1001 numbers with the entries, that of the dew point −500 tenths first. A slice of another length is
 // left as it was, and the answer is the length needed.
+#[tactic(auto, using(vapour::proofs::FilledSlice::untouched))]
 pub fn fill(entries: &mut [u16]) -> Filling
     ensures { Generated entries.old result entries.new }
 {

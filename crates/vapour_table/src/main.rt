@@ -1,38 +1,36 @@
 // Prints the vapour table as the generator fills it: 1001 numbers, hundredths of hPa, one a line, that of the dew point −500
 // tenths of a degree first. A write that fails ends it, and is told on standard error.
-use libc::{STDERR_FILENO, STDOUT_FILENO};
+#![tactic(auto)]
+
+use std::io;
 use vapour::{Filling, PLACES};
 use vapour_generator::fill;
 
-// A number in decimal, on a line of its own: whether it was written.
-fn print_line(n: u16) -> bool {
-    if !io::print_decimal(STDOUT_FILENO, n as u64) {
-        return false;
-    }
-    io::write_all(STDOUT_FILENO, b"\n")
+// A number in decimal, on a line of its own.
+fn print_line(rt: &impl Print, n: u16) -> io::Result<()> {
+    println!(rt; "{n}")
 }
 
-// The lines of the numbers: whether all were written.
-fn print_lines(numbers: &[u16]) -> bool {
+// The lines of the numbers, up to one that was not written.
+fn print_lines(rt: &impl Print, numbers: &[u16]) -> io::Result<()> {
     for k in 0..numbers.len() {
-        if !print_line(numbers[k]) {
-            return false;
-        }
+        print_line(rt, numbers[k])?;
     }
-    true
+    Ok(())
 }
 
-// The table: whether all of it was printed.
-fn print_table() -> bool {
+// The table, up to a line that was not written.
+fn print_table(rt: &impl Print) -> io::Result<()> {
     let mut entries = [0u16; PLACES];
     match fill(&mut entries) {
-        Filling::Filled => print_lines(&entries),
-        Filling::LengthNeeded(n) => false,
+        Filling::Filled => print_lines(rt, &entries),
+        Filling::LengthNeeded(n) => Err(io::Error::other("the table has another length")),
     }
 }
 
-fn main() {
-    if !print_table() {
-        io::write_all(STDERR_FILENO, b"vapour_table: a write failed\n");
+fn main(rt: HostRuntime) -> io::Result<()> {
+    if print_table(&rt).is_err() {
+        return eprintln!(rt; "vapour_table: a write failed");
     }
+    Ok(())
 }
