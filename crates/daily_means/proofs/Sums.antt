@@ -32,16 +32,16 @@ module _ (xs : List Cell) (k : ℕ) (d : Cell) (e : d ≡ slot xs k) where
   all_turn test b h = rw all_more (ap₂ ◌&&◌ h (ap test e))
 
 -- what going through the first k slots has given
-pub record Running (xs : List Cell) (n : ℕ) (All-there all_plain : Bool) (k : ℕ) : Type 0 where
+pub record Running (xs : List Cell) (n : ℕ) (all_there all_plain : Bool) (k : ℕ) : Type 0 where
   pub upto : k ≤ 8
   pub most : n ≤ 65535 * k
   pub sum : sub_ℕ n (32768 * k) ≡ sum xs k
-  pub complete : All-there ≡ all (λ j. not (passed_over (slot xs j))) k
+  pub complete : all_there ≡ all (λ j. not (passed_over (slot xs j))) k
   pub plain : all_plain ≡ all (λ j. not (repaired (slot xs j))) k
 
 -- all eight
-pub done : {xs : List Cell} {n : ℕ} {All-there all_plain : Bool} → Running xs n All-there all_plain 8
-    → Tallied (record { sum = n; complete = All-there; plain = all_plain }) xs
+pub done : {xs : List Cell} {n : ℕ} {all_there all_plain : Bool} → Running xs n all_there all_plain 8
+    → Tallied (record { sum = n; complete = all_there; plain = all_plain }) xs
 done r = record { sum = r.sum; most = r.most; complete = r.complete; plain = r.plain }
 
 -- the mean of a column

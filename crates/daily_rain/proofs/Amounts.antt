@@ -1,28 +1,20 @@
 -- Amounts of rain: sums of values in offset binary beside the sums of their offsets.
 -- Assumes nothing.
-use mathlib.Core.Path.{◌≡◌, refl, sym, ◌∙◌, ap}
-use mathlib.Core.Bool.{Bool, true, false, cond, ◌&&◌, ◌||◌}
+use mathlib.Core.Path.{◌≡◌, sym}
+use mathlib.Core.Bool.{true, false, cond, ◌&&◌}
 use mathlib.Core.List.{List}
-use mathlib.Core.Option.{Option, none, some}
-use Prim.Native.Nat.{ℕ, ◌+◌, ◌-◌, ◌*◌, ◌≤◌}
+use mathlib.Core.Option.{Option, none}
+use Prim.Native.Nat.{ℕ, ◌+◌, ◌*◌, ◌≤◌}
 use native.Mathlib.Omega.{arith}
 use borrow.Author.Tests.{eq-eqb, ne_eqb}
 use lib.Dec.{eqb}
-use lib.IntN.{ℤ, sub_ℕ}
-use Rattle.laws.proofs.Bools.{cond_false, took, skip}
-use Rattle.laws.proofs.Offset.{sub_add, size_sub}
+use lib.IntN.{ℤ}
+use Rattle.laws.proofs.Bools.{cond_true, cond_false, took, skip}
 use Rattle.daily_rain.specs.declared.Amount.{Amount}
 use Rattle.quality.specs.Cell.{Cell}
 use Rattle.quality.specs.declared.head.SlotHead.{SlotHead}
-use Rattle.daily.specs.Rain.{i_r, t_r, amount, is_nothing, together, half}
-use Rattle.daily_rain.specs.Parts.{amount_of, Small, Joined}
-
--- two amounts, m and n saying which are missing
-pub joined : (m n : Bool) (a b o p : ℕ)
-    → cond (m || n) none (some (sub_ℕ (a + b) (o + p))) ≡ together (cond m none (some (sub_ℕ a o))) (cond n none (some (sub_ℕ b p)))
-joined true n a b o p = refl
-joined false true a b o p = refl
-joined false false a b o p = ap some (sym (sub_add a b o p))
+use Rattle.daily.specs.Rain.{i_r, t_r, amount, is_nothing, together, half, rain_total}
+use Rattle.daily_rain.specs.Parts.{Small, Joined}
 
 -- made of at most n values, and so of at most n + k
 pub grows : {n : ℕ} {a : Amount} (k : ℕ) → Small n a → Small (n + k) a
@@ -40,25 +32,7 @@ both {n} {k} {r} {a} {b} j s t =
     let q' : b.offset ≤ k * 32768 = t.offset in
     record { sum = rw j.sum (omega arith); offset = rw j.offset (omega arith) }
 
--- ---- the amount a where b is there and is 0, else b
-module _ (a b : Amount) where
-  abbrev chosen : Option ℤ
-  chosen = cond (is_nothing (amount_of b)) (amount_of a) (amount_of b)
-
-  pub gone : b.missing ≡ true → amount_of b ≡ chosen
-  gone e = rw e
-
-  module _ (e : b.missing ≡ false) where
-    there : is_nothing (amount_of b) ≡ eqb ((b.sum - b.offset) + (b.offset - b.sum)) 0
-    there = ap is_nothing (cond_false b.missing none (some (sub_ℕ b.sum b.offset)) e) ∙ ap (λ (n : ℕ). eqb n 0) (size_sub b.sum b.offset)
-
-    pub nothing : b.sum ≡ b.offset → amount_of a ≡ chosen
-    nothing h = took _ _ _ (there ∙ eq-eqb ((b.sum - b.offset) + (b.offset - b.sum)) 0 (omega (arith, h)))
-
-    pub something : (b.sum ≡ b.offset → ⊥) → amount_of b ≡ chosen
-    something h = skip _ _ _ _ (there ∙ ne_eqb ((b.sum - b.offset) + (b.offset - b.sum)) 0 (λ z. h (omega (arith, z)))) refl
-
--- ---- a half of the day, by i_r and t_r of the slot that ends it, t_r of the slot six hours before, and the two amounts
+-- ---- a half of the day, by iR and tR of the slot that ends it, tR of the slot six hours before, and the two amounts
 module _ (i t u : ℕ) (a b : Option ℤ) where
   abbrev pub half_by : Option ℤ
   half_by =
@@ -82,3 +56,13 @@ pub half_as : (heads : List SlotHead) (rs : List Cell) (first last : ℕ) {i t u
     → half_by i t u a b ≡ half heads rs first last
 unfolding half
 half_as heads rs first last p q r x y = λ j. half_by (p j) (q j) (r j) (x j) (y j)
+
+-- ---- the day: slot 8's amount where its tR is 4, else the two halves
+module _ (heads : List SlotHead) (rs : List Cell) where
+  pub of_slot_8 : t_r heads 8 ≡ 4 → rain_total heads rs ≡ amount rs 8
+  unfolding rain_total
+  of_slot_8 e = cond_true _ _ _ (eq-eqb (t_r heads 8) 4 e)
+
+  pub of_halves : (t_r heads 8 ≡ 4 → ⊥) → rain_total heads rs ≡ together (half heads rs 2 4) (half heads rs 6 8)
+  unfolding rain_total
+  of_halves e = cond_false _ _ _ (ne_eqb (t_r heads 8) 4 e)

@@ -1,4 +1,4 @@
--- S-5 at work: the rain of days on which a station drops group 6 under i_r 3 at 18 and at 06 UTC, the slots 4 and 8.
+-- S-5 at work: the rain of days on which a station drops group 6 under iR 3 at 18 and at 06 UTC, the slots 4 and 8.
 --     dry_days
 -- Assumes nothing.
 use mathlib.Core.Path.{◌≡◌, refl}
@@ -20,13 +20,13 @@ use Rattle.rules.specs.Rules
 use Rattle.rules.specs.Rules.{filed, settled_station}
 use Rattle.rules.proofs.Isolation.{new_station, date}
 
--- a report in slot k with i_r, whether a group 6 was sent, t_r and R, and nothing else
+-- a report in slot k with iR, whether a group 6 was sent, tR and R, and nothing else
 abbrev report : ℕ → ℕ → Bool → ℕ → Value → Station → Station
 report k ir sent tr r =
     filed k 0 (record { rain_indicator = ir; rain_sent = sent; rain_duration = tr; wind_direction = 100 })
     (missing ∷ missing ∷ missing ∷ missing ∷ missing ∷ missing ∷ r ∷ missing ∷ missing ∷ [])
 
--- i_r 3, and no group 6
+-- iR 3, and no group 6
 abbrev dry : ℕ → Station → Station
 dry k = report k 3 false 0 missing
 
@@ -45,9 +45,9 @@ pub record DryDays : Type 0 where
   pub sent : rain (report 2 1 true 1 (read (pos 30)) (report 4 3 true 2 (read (pos 0)) (dry 8 new))) ≡ some (pos 30)
   -- an R of noon that the range step discards
   pub discarded : rain (report 2 1 true 1 (read (pos 9890)) (dry 4 (dry 8 new))) ≡ none
-  -- "A group 6 that is present wins over i_r, even if its value is missing"
+  -- "A group 6 that is present wins over iR, even if its value is missing"
   pub present : rain (report 4 3 true 0 missing (dry 8 new)) ≡ none
-  -- "at other slots it stays missing": 21 UTC for 18, and t_r is 0 there
+  -- "at other slots it stays missing": 21 UTC for 18, and tR is 0 there
   pub elsewhere : rain (dry 5 (dry 8 new)) ≡ none
 
 pub dry_days : DryDays

@@ -32,7 +32,7 @@ pub record Shows (d : Date) (x : ℕ) (t : Station) (s : List ℕ) (cs : List Ca
 pub shows : AllLawful → {d : Date} {x : ℕ} {t : Station} {s : List ℕ} (cs : List Call) → HoldsStation d x t s → Shows d x t s cs
 unfolding log left naming_log naming own_log own_end
 shows lawful [] h = record { answers = refl; holds = h }
-shows lawful {d} {x} {t} {s} (c ∷ cs) h = go (known (names x c)) (λ u k. shows lawful cs k)
+shows lawful {d} {x} {t} {s} (c ∷ cs) h = go (known (names x c)) (λ u k. shows lawful {t = u} {s = (step c s).store} cs k)
   where
     go : Known (names x c) → ((u : Station) → HoldsStation d x u (step c s).store → Shows d x u (step c s).store cs) → Shows d x t s (c ∷ cs)
     go (is_true e) r =

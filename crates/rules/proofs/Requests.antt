@@ -71,7 +71,7 @@ lawful_stepping d t u v q = go (known (is_under_way t.settled))
     go (is_false w) = absurd (never (rw w at q))
 
 -- ---- a report filed
--- what a report holds can stand in a store: "i_r 0 to 4, else 5; t_r 0 to 9; dd 0 to 36 or 99, else 100", and each value in a cell
+-- what a report holds can stand in a store: "iR 0 to 4, else 5; tR 0 to 9; dd 0 to 36 or 99, else 100", and each value in a cell
 pub record Fits (head : Indicators) (values : List Value) : Type 0 where
   pub indicator : head.rain_indicator ≤ 5
   pub duration : head.rain_duration ≤ 9

@@ -1,7 +1,7 @@
 -- A test of 81 places, nine by nine.
 -- Assumes nothing.
 use mathlib.Core.Path.{◌≡◌, sym, ◌∙◌, ap, ap₂}
-use mathlib.Core.Bool.{Bool, ◌&&◌, and_assoc, and_true}
+use mathlib.Core.Bool.{Bool, ◌&&◌, and_assoc, and-true}
 use Prim.Native.Nat.{ℕ, zero, suc, ◌+◌, ◌*◌, ◌<◌}
 use native.Mathlib.Omega.{arith}
 use Rattle.laws.specs.All.{all}
@@ -11,7 +11,7 @@ use Rattle.store_numbers.proofs.Passed.{all_ext}
 module _ (f : ℕ → Bool) where
   -- the first a, and then b more
   all_on : (a b : ℕ) → all f (a + b) ≡ (all f a && all (λ e. f (a + e)) b)
-  all_on a zero = let z : a + 0 ≡ a = omega arith in ap (all f) z ∙ sym (and_true (all f a))
+  all_on a zero = let z : a + 0 ≡ a = omega arith in ap (all f) z ∙ sym (and-true (all f a))
   all_on a (suc b) =
       let z : a + suc b ≡ suc (a + b) = omega arith in
       ap (all f) z ∙ ap (λ (r : Bool). r && f (a + b)) (all_on a b) ∙ and_assoc (all f a) (all (λ e. f (a + e)) b) (f (a + b))

@@ -15,7 +15,7 @@ use Rattle.laws.specs.Table.{table}
 use Rattle.laws.proofs.Tables.{get_d_table, is_table, length_table}
 use Rattle.store_layout.specs.Model.{Station, Store, empty_station, station_at}
 use Rattle.store_layout.specs.Valid.{ValidBlock, ValidStore}
-use Rattle.store_layout.specs.Layout.{word, long, word_bytes, count_at, list_offset_at, block_offset_at, block_length_at, year_at, month_at, day_at, zero_at, header_length, entry_length, block_length, entry_at, row_in, settled_in, block_at, store_length, pieces, decode_block, encode_block, block_bytes, decode_station, decode, encode_entry, encode_header, encode}
+use Rattle.store_layout.specs.Layout.{word, word_bytes, count_at, list_offset_at, block_offset_at, block_length_at, year_at, month_at, day_at, zero_at, header_length, entry_length, block_length, entry_at, row_in, settled_in, block_at, store_length, pieces, decode_block, encode_block, block_bytes, decode_station, decode, encode_entry, encode_header, encode}
 use Rattle.store_layout.specs.Framed.{Bytes, Framed}
 use Rattle.store_layout.proofs.Numbers.{word_of_bytes, long_of_bytes}
 use Rattle.store_layout.proofs.Bytes.{bytes_part}

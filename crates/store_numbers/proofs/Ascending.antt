@@ -1,7 +1,7 @@
 -- Numbers tested in turn, each against the one before: strictly ascending, and each with a test of its own.
 -- Assumes nothing.
 use mathlib.Core.Path.{◌≡◌, refl, sym, ◌∙◌, ap}
-use mathlib.Core.Bool.{Bool, true, false, ◌&&◌, and_true, and-false}
+use mathlib.Core.Bool.{Bool, true, false, ◌&&◌, and-true, and-false}
 use Prim.Native.Nat.{ℕ, zero, suc, ◌-◌}
 use native.Mathlib.Omega.{arith}
 use lib.Dec.{ltb}
@@ -17,7 +17,7 @@ abbrev pub in_order : (ℕ → ℕ) → (ℕ → Bool) → ℕ → Bool
 in_order x p i = ltb (number_before x i) (x i) && p i
 
 apart : (a o p e : Bool) → (a && o && (p && e)) ≡ (a && e && (o && p))
-apart true true true e = sym (and_true e)
+apart true true true e = sym (and-true e)
 apart true true false e = sym (and-false e)
 apart true false p e = sym (and-false e)
 apart false o p e = refl
@@ -29,7 +29,7 @@ less m = omega arith
 pub in_turn : (x : ℕ → ℕ) (p : ℕ → Bool) → (ltb 0 (x 0) && p 0) ≡ p 0 → (n : ℕ)
     → all (in_order x p) n ≡ (all p n && all (λ i. ltb (x i) (x (suc i))) (n - 1))
 in_turn x p first zero = refl
-in_turn x p first (suc zero) = first ∙ sym (and_true _)
+in_turn x p first (suc zero) = first ∙ sym (and-true _)
 in_turn x p first (suc (suc n)) =
     rw (less (suc n))
     (ap (λ (b : Bool). b && in_order x p (suc n)) (in_turn x p first (suc n))

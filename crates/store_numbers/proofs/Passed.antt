@@ -6,10 +6,9 @@
 -- and two tests that agree below the bound.
 -- Assumes nothing.
 use mathlib.Core.Path.{◌≡◌, refl, sym, ◌∙◌, ap₂}
-use mathlib.Core.Bool.{Bool, true, false, not, ◌&&◌, false≢true}
+use mathlib.Core.Bool.{Bool, true, false, ◌&&◌, false≢true}
 use Prim.Native.Nat.{ℕ, zero, suc, ◌+◌, ◌<◌, ◌≤◌}
 use native.Mathlib.Omega.{arith}
-use borrow.Author.Tests.{not_true, not_false}
 use Rattle.laws.specs.All.{all}
 use Rattle.laws.proofs.Bools.{is_true, is_false, known, via, and_true}
 use Rattle.laws.proofs.Tables.{all_more, all_at}
@@ -23,17 +22,17 @@ pub none : (p : ℕ → Bool) (n : ℕ) → Passed p n 0
 none p n = record { upto = omega arith; so_far = refl }
 
 module _ {p : ℕ → Bool} {n i : ℕ} (h : Passed p n i) where
-  -- r is the answer of the test at i, and `!r` is what the code asks
-  pub more : i < n → (r : Bool) → r ≡ p i → not r ≡ false → Passed p n (i + 1)
-  more l r e t = record { upto = omega arith; so_far = all_more p i ∙ and_true (all p i) (p i) h.so_far (via e (not_false r t)) }
+  -- r is the answer of the test at i
+  pub more : i < n → (r : Bool) → r ≡ p i → r ≡ true → Passed p n (i + 1)
+  more l r e t = record { upto = omega arith; so_far = all_more p i ∙ and_true (all p i) (p i) h.so_far (via e t) }
 
   pub whole : n ≤ i → true ≡ all p n
   whole l = let e : i ≡ n = omega arith in rw (← e) (sym h.so_far)
 
-  pub stopped : i < n → (r : Bool) → r ≡ p i → not r ≡ true → false ≡ all p n
+  pub stopped : i < n → (r : Bool) → r ≡ p i → r ≡ false → false ≡ all p n
   stopped l r e t =
       elim (known (all p n)) [
-        | is_true a ↦ absurd (false≢true (sym (via e (not_true r t)) ∙ all_at p n a i l))
+        | is_true a ↦ absurd (false≢true (sym (via e t) ∙ all_at p n a i l))
         | is_false f ↦ sym f
       ]
 

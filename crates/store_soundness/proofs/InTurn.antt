@@ -1,10 +1,9 @@
 -- Laws of sound stations: the order in which the code makes the tests.
 -- Assumes nothing.
 use mathlib.Core.Path.{◌≡◌, refl, sym}
-use mathlib.Core.Bool.{Bool, true, false, not, ◌&&◌, and_assoc}
+use mathlib.Core.Bool.{Bool, true, false, ◌&&◌, and_assoc}
 use mathlib.Core.List.{List}
 use Prim.Native.Nat.{ℕ, ◌+◌, ◌-◌}
-use borrow.Author.Tests.{not_true, not_false}
 use lib.Dec.{leb, ltb}
 use Rattle.laws.specs.All.{all}
 use Rattle.store_layout.specs.Layout.{word, long, entry_at, settled_in, block_at}
@@ -30,9 +29,9 @@ module _ (s : List ℕ) (n i last : ℕ) {r : Bool} (p : r ≡ (ltb last (long s
   unfolding sound_station
   parted = rw p (sym (and_assoc (ltb last (long s (entry_at i))) (sound_entry s i) _))
 
-  pub entry_fails : not r ≡ true → false ≡ (ltb last (long s (entry_at i)) && sound_station s n i)
-  entry_fails t = rw (parted, not_true r t)
+  pub entry_fails : r ≡ false → false ≡ (ltb last (long s (entry_at i)) && sound_station s n i)
+  entry_fails t = rw (parted, t)
 
-  pub entry_holds : not r ≡ false → {q : Bool} → q ≡ sound_block (word s (entry_at i + settled_in)) s (block_at n i)
+  pub entry_holds : r ≡ true → {q : Bool} → q ≡ sound_block (word s (entry_at i + settled_in)) s (block_at n i)
       → q ≡ (ltb last (long s (entry_at i)) && sound_station s n i)
-  entry_holds t h = rw (parted, not_false r t) h
+  entry_holds t h = rw (parted, t) h

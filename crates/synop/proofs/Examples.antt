@@ -37,7 +37,7 @@ bytes_from (suc n) i s = code (char_at s i) ∷ bytes_from n (suc i) s
 unfoldable pub bytes : String → List ℕ
 bytes s = bytes_from (len s) 0 s
 
--- what a report without T, D, P, W, C, V, X and M gives for i_r 3, a group 6 sent or not, and R missing
+-- what a report without T, D, P, W, C, V, X and M gives for iR 3, a group 6 sent or not, and R missing
 abbrev no_rain : Bool → Report
 no_rain sent =
     whole (record { station = 40001; day = 11; hour = 6 }) (record { rain_indicator = 3; rain_sent = sent; rain_duration = 0; wind_direction = 100 })

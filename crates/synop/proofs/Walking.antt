@@ -5,7 +5,7 @@
 --     past      after the last group
 -- Assumes nothing.
 use mathlib.Core.Path.{◌≡◌, refl, sym, ◌∙◌, ap, subst}
-use mathlib.Core.Bool.{Bool, true, false, cond, ◌&&◌, and_assoc, and_true}
+use mathlib.Core.Bool.{Bool, true, false, cond, ◌&&◌, and_assoc, and-true}
 use mathlib.Core.List.{List, [], ◌∷◌}
 use Prim.Native.Nat.{ℕ, ◌<◌, ◌≤◌}
 use native.Mathlib.Omega.{arith}
@@ -99,7 +99,7 @@ module _ {s : List ℕ} {kept : List Group} {p : Place} {good : Bool} {at : ℕ}
       shape = w.shape ∙ ap (shaped_from p) e
 
       range : check4 (tokens s) ≡ good
-      range = w.range ∙ ap (λ (gs : List Group). good && ranged_from p gs) e ∙ and_true good
+      range = w.range ∙ ap (λ (gs : List Group). good && ranged_from p gs) e ∙ and-true good
 
       place : final Start (tokens s) ≡ p
       place = w.place ∙ ap (final p) e

@@ -1,7 +1,7 @@
 -- The loops over the bytes: what checks 1 and 2 say of the text, from what is read and what is left.
 -- Assumes nothing.
 use mathlib.Core.Path.{◌≡◌, refl, sym, ◌∙◌, ap}
-use mathlib.Core.Bool.{Bool, true, false, ◌&&◌, and_assoc, and_true}
+use mathlib.Core.Bool.{Bool, true, false, ◌&&◌, and_assoc, and-true}
 use mathlib.Core.List.{List, ◌∷◌}
 use Prim.Native.Nat.{ℕ, suc, ◌+◌, ◌-◌, ◌<◌, ◌≤◌}
 use native.Mathlib.Numerals.{add-one}
@@ -9,9 +9,9 @@ use native.Mathlib.Omega.{arith}
 use lib.Dec.{eqb, eqb-suc-suc}
 use lib.ListN.{length, drop, get_or, length-drop, drop_of_length-le}
 use lib.Seq.{drop-cons}
-use borrow.Author.Tests.{eq-eqb, ne_eqb, le-ltb, lt-ltb}
+use borrow.Author.Tests.{eq-eqb, ne_eqb}
 use Rattle.laws.proofs.Bools.{cond_true}
-use Rattle.synop_bytes.specs.Bytes.{ended, check1, is_known, check2, of_bytes}
+use Rattle.synop_bytes.specs.Bytes.{ended, is_known, check2}
 
 -- what is left from i on is the byte at i and what is left after it
 step : (s : List ℕ) (i : ℕ) → i < length s → drop i s ≡ get_or s i 0 ∷ drop (i + 1) s
@@ -64,23 +64,4 @@ module _ {s : List ℕ} {known : Bool} {i : ℕ} where
 
   pub known_all : Knowing s known i → length s ≤ i → known ≡ check2 s
   unfolding check2
-  known_all v h = sym (v.same ∙ ap (λ (t : List ℕ). known && check2 t) (drop_of_length-le s h) ∙ and_true known)
-
--- ---- the number, by the tests
-module _ (s : List ℕ) where
-  pub beyond : 512 < length s → 1 ≡ of_bytes s
-  unfolding check1 of_bytes
-  beyond h = rw (lt-ltb 512 (length s) h)
-
-  module _ (h : length s ≤ 512) where
-    pub not_ended : ended s ≡ false → 1 ≡ of_bytes s
-    unfolding check1 of_bytes
-    not_ended e = rw (le-ltb 512 (length s) h, e)
-
-    pub not_known : ended s ≡ true → check2 s ≡ false → 2 ≡ of_bytes s
-    unfolding check1 of_bytes
-    not_known e k = rw (le-ltb 512 (length s) h, e, k)
-
-    pub all_well : ended s ≡ true → check2 s ≡ true → 0 ≡ of_bytes s
-    unfolding check1 of_bytes
-    all_well e k = rw (le-ltb 512 (length s) h, e, k)
+  known_all v h = sym (v.same ∙ ap (λ (t : List ℕ). known && check2 t) (drop_of_length-le s h) ∙ and-true known)

@@ -61,7 +61,7 @@ rain_of_within e rrr h =
     (λ _. by_cond (Within e) (leb rrr 989) (λ _. omega arith) (λ _. by_cond (Within e) (eqb rrr 990) (λ _. lit≤ tt) (λ _. omega arith)))
 
 -- ---- each of a head's numbers is in its range
--- i_r 0 to 5
+-- iR 0 to 5
 pub rain_indicator_of_range : (n : ℕ) → rain_indicator_of n ≤ 5
 unfolding rain_indicator_of
 rain_indicator_of_range n = by_cond (λ n. n ≤ 5) (leb n 4) (λ e. omega (arith, leb-true n 4 e)) (λ _. lit≤ tt)

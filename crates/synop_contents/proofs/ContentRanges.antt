@@ -15,7 +15,7 @@ use Rattle.synop_parts.specs.Parts.{part, is_sent}
 use Rattle.synop_contents.specs.Contents.{indicators_of, wind_of, values_of}
 use Rattle.synop_contents.specs.declared.Indicators.{Indicators}
 
--- i_r 0 to 5, t_r 0 to 9, dd 0 to 36, 99 or 100
+-- iR 0 to 5, tR 0 to 9, dd 0 to 36, 99 or 100
 pub record IndicatorsFit (d : Indicators) : Type 0 where
   pub indicator : d.rain_indicator ≤ 5
   pub duration : d.rain_duration ≤ 9

@@ -68,7 +68,7 @@ unfolding group.rain_indicator rain_indicator
 rain_indicator_range g =
     let x = characters_of g in given_all (λ n. n ≤ 5) (digit x.a) (digit_below x.a) (lit≤ tt) (λ n _. rain_indicator_of_range n)
 
--- t_r 0 to 9
+-- tR 0 to 9
 pub rain_duration_range : (g : Group) → group.rain_duration g ≤ 9
 unfolding group.rain_duration rain_duration rain_duration_of
 rain_duration_range g =

@@ -38,7 +38,7 @@ later_below n run g = either (eqb n 3 && not run) (in_three_below g) (lit< tt)
 -- "After a group beginning 55, groups with first character 0 to 6 are skipped": a 6 there is no R, and none that is present
 pub run_unread : (n : ℕ) (g : Group) → of_later n true g ≡ unread
 unfolding of_later
-run_unread n g = cond_false (eqb n 3 && false) (in_three g) unread (and_false_right (eqb n 3) false refl)
+run_unread n g = search (cond_false, and_false_right)
 
 pub part_below : (p : Place) (g : Group) → part_of p g < count
 part_below Start g = lit< tt

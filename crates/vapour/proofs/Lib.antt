@@ -3,5 +3,5 @@ pub mod Pass
 pub mod Most
 pub mod Rule
 pub mod Lookup
-pub mod Filling
+pub mod FilledSlice
 pub mod Examples

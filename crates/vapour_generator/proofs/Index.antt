@@ -2,19 +2,9 @@
 -- Assumes nothing.
 use mathlib.Core.Path.{◌≡◌}
 use Prim.Native.Nat.{ℕ, ◌+◌, ◌*◌, ◌/◌, ◌≤◌, ◌<◌}
-use native.Mathlib.Nat.{div-le_of_le-mul}
-use native.Mathlib.Omega.{arith}
 use borrow.Author.Tests.{lt-ltb, le-ltb}
-use lib.IntN.{ℤ, nat_abs, sub_ℕ}
+use lib.IntN.{ℤ, sub_ℕ}
 use Rattle.vapour.specs.Vapour.{S, q, term, sum_to, Z, entry}
-use Rattle.laws.proofs.Differences.{plus}
-
--- q from |t|, and its bound
-pub q_at : (i n : ℕ) → n ≡ nat_abs (sub_ℕ i 500) → 1767 * n * S / (100 * (i + 1935)) ≡ q (sub_ℕ i 500)
-q_at i n e = rw (e, plus 500 1935 i)
-
-pub q_most : (i n : ℕ) → n ≤ 500 → 1767 * n * S / (100 * (i + 1935)) ≤ 5 * S
-q_most i n h = div-le_of_le-mul (100 * (i + 1935)) (omega arith)
 
 -- Z from q
 z_at : (t : ℤ) (r z : ℕ) → r ≡ q t → z ≡ sum_to (term r) 30 → z ≡ Z t

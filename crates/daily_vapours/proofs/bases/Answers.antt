@@ -1,0 +1,20 @@
+-- `daily_vapours::bases` meets its contract.
+use mathlib.Core.Path.{◌∙◌, ap₂}
+use borrow.Author.Rules.{rules}
+use Rattle.laws.proofs.Fill as Fill
+use Rattle.quality.proofs.Columns.{length_cells}
+use Rattle.quality.proofs.InPlace.{filled_more}
+use Rattle.daily.specs.Means.{basis}
+use Rattle.daily_vapours.proofs.bases.Goals as goal
+
+pub loop-k-init : goal.loop-k-init
+loop-k-init c = (Fill.none _ _ _ _ (length_cells _), record { values = search rules; states = search rules; flags = search rules })
+
+pub loop-k-preserved : goal.loop-k-preserved
+loop-k-preserved c =
+    let x = c.basis-b.result in
+    filled_more c.loop-k.r c.loop-k.k x.state x.flag x.value _ c.loop-k.invariant (search rules)
+    (c.basis-b.ensures ∙ ap₂ basis c.at.ensures c.at-in-loop-k.ensures)
+
+pub returns : goal.returns
+returns c = Fill.whole c.loop-k.invariant.0 (search rules)

@@ -1,0 +1,48 @@
+-- `engine_reading::give_cell` meets its contract.
+use mathlib.Core.Path.{sym, ◌∙◌, ap}
+use native.Mathlib.Omega.{arith}
+use lib.Dec.{leb}
+use mir.Syntax.{w32}
+use mir.Facts.{to_z-of_z}
+use borrow.Author.Rules.{rules}
+use borrow.Author.Tests.{leb-true, eq-eqb, ne_eqb}
+use Rattle.laws.proofs.Bools.{both}
+use Rattle.quality.specs.Cell.{slot}
+use Rattle.quality.specs.Elements.{column}
+use Rattle.store_layout.specs.Model.{Block}
+use Rattle.rules.specs.Calls.{a_cell}
+use Rattle.rules.specs.Rules.{cell_of}
+use Rattle.engine_answers.proofs.Stores.{at_index, part_block}
+use Rattle.engine_reading.proofs.give_cell.Goals as goal
+
+pub cell_of-d-requires : goal.cell_of-d-requires
+cell_of-d-requires c =
+    let o = c.args in
+    let w = both {a = leb o.element 8} {b = leb o.slot 8} c.if-not-within.false in
+    (search rules, omega (arith, leb-true o.element 8 w.0), omega (arith, leb-true o.slot 8 w.1))
+
+pub returns : goal.returns
+unfolding cell_of
+returns c =
+    let o = c in
+    let d = c.cell_of-d in
+    rw (c.if-not-within.false, eq-eqb _ 1 (sym c.settled_of.ensures ∙ c.if-settled_of-ne1.false))
+    (ap a_cell
+    ((λ j. record { state = d.result.state; flag = d.result.flag; value = (to_z-of_z {w = w32} (search rules) ∙ c.difference.ensures) j })
+    ∙ d.ensures ∙ ap (λ (x : Block). slot (column x.checked o.args.element) o.args.slot) (part_block o.requires.0 o.requires.1 c.block_start-a.ensures.0)))
+
+pub returns-then-not-within : goal.returns-then-not-within
+unfolding cell_of
+returns-then-not-within c = rw c.if-not-within.true
+
+pub settled_of-requires : goal.settled_of-requires
+unfolding cell_of
+settled_of-requires c = at_index c.requires.0 c.requires.1
+
+pub returns-then-settled_of-ne1 : goal.returns-then-settled_of-ne1
+unfolding cell_of
+returns-then-settled_of-ne1 c = rw (c.if-not-within.false, ne_eqb _ 1 (λ q. c.if-settled_of-ne1.true (c.settled_of.ensures ∙ q)))
+
+pub block_start-a-requires : goal.block_start-a-requires
+unfolding cell_of
+block_start-a-requires c = at_index c.requires.0 c.requires.1
