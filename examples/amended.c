@@ -1,6 +1,6 @@
 /* Amended reports of one hour, as they come: the ordinary one, the corrections CCA and CCC, then some that change nothing. After
    each stands the temperature that the slot then gives.
-   cc -I include examples/amended.c target/staticlib/libesfenruk.a -o target/amended */
+   cc -I include examples/amended.c crates/esfenruk/out/libesfenruk.a -o target/amended */
 #include "esfenruk.h"
 #include <inttypes.h>
 #include <stdio.h>

@@ -1,5 +1,5 @@
 /* The printed day of the paper: one report filed, the station settled, its day line printed.
-   cc -I include examples/day.c target/staticlib/libesfenruk.a -o target/day */
+   cc -I include examples/day.c crates/esfenruk/out/libesfenruk.a -o target/day */
 #include "esfenruk.h"
 #include <inttypes.h>
 #include <stdio.h>

@@ -1,6 +1,6 @@
 /* The rain of a day at a station that drops group 6 where no rain has fallen, and says so by iR 3, the first figure of
    iRixhVV. Each line is a day of its own: what was reported for 12, 18 and 06 UTC, and the total.
-   cc -I include examples/dry.c target/staticlib/libesfenruk.a -o target/dry */
+   cc -I include examples/dry.c crates/esfenruk/out/libesfenruk.a -o target/dry */
 #include "esfenruk.h"
 #include <inttypes.h>
 #include <stdio.h>

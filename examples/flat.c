@@ -1,6 +1,6 @@
 /* The warmest and the coldest hour of days on which hours are equally warm: of these the warmest is the latest and the coldest
    the earliest. Each line is a day of its own: the temperatures at 06, 09 .. 21, 00 and 03 UTC, and the two hours.
-   cc -I include examples/flat.c target/staticlib/libesfenruk.a -o target/flat */
+   cc -I include examples/flat.c crates/esfenruk/out/libesfenruk.a -o target/flat */
 #include "esfenruk.h"
 #include <inttypes.h>
 #include <stdio.h>

@@ -1,6 +1,6 @@
 /* What the slots of a day hold of moisture: three reports filed, the station settled, D's cells read. A station whose dew
    point sensor is down sends a relative humidity, 29UUU, which stands in D's cell in state 4.
-   cc -I include examples/moisture.c target/staticlib/libesfenruk.a -o target/moisture */
+   cc -I include examples/moisture.c crates/esfenruk/out/libesfenruk.a -o target/moisture */
 #include "esfenruk.h"
 #include <inttypes.h>
 #include <stdio.h>

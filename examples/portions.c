@@ -1,6 +1,6 @@
 /* A station settled in portions, a step at a time between other work. A report that comes in between does not touch the settling,
    but the station is then to be settled once more.
-   cc -I include examples/portions.c target/staticlib/libesfenruk.a -o target/portions */
+   cc -I include examples/portions.c crates/esfenruk/out/libesfenruk.a -o target/portions */
 #include "esfenruk.h"
 #include <inttypes.h>
 #include <stdio.h>

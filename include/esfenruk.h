@@ -1,4 +1,4 @@
-/* The calls on a store of one day, for C. Link libesfenruk.a (`rt staticlib esfenruk`).
+/* The calls on a store of one day, for C. Link libesfenruk.a (`rt lib` in crates/esfenruk).
    Each call on a store returns 0 or the refusal's number (1 to 14); a refusal changes no byte of the store and of the arrays. */
 #ifndef ESFENRUK_H
 #define ESFENRUK_H

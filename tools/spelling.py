@@ -31,6 +31,8 @@ TOGETHER = {
     "nil-in": "moved_by_nil",
 }
 # One name for two things that no file has both of: each is private to its file, or of a crate that the other's does not see.
+# What a report's groups are called, in comments and documents.
+LETTERS = {"iR", "tR"}
 APART = {"in_column", "is_day", "on_day", "reports_on"}
 DECLARED = re.compile(r"(?m)^\s*(?:abbrev |unfoldable )?(?:pub )?(?:abbrev |unfoldable )?(" + WORD + r")(?: \{[^{}:]*\})?\s*:(?!=)")
 TOKEN = re.compile(r"(?<![\w'′-])" + WORD + r"(?![\w'′])")
@@ -86,13 +88,26 @@ def turned(text, names):
 
 def of_comment(text, names, here):
     """A comment: words with a capital inside wherever they stand, words with a hyphen between backquotes or in a list of the file's lemmas."""
+    names = {it: to for it, to in names.items() if it not in LETTERS}
     text = re.sub(r"`[^`]*`", lambda it: turned(it[0], names), text)
     if re.match(r"(?:--|//)     ", text):
         text = turned(text, {it: names[it] for it in here if it in names})
-    return turned(text, {it: to for it, to in names.items() if "-" not in it})
+    return turned(text, {it: to for it, to in names.items() if "-" not in it and it not in LETTERS})
+
+
+def foreign(text):
+    """What a file takes from the kit's libraries, which have their own spelling."""
+    found = set()
+    for module, words in re.findall(r"(?m)^(?:ghost )?use ([^\s{]+)\.\{([^}]*)\}", text):
+        parts = module.split(".")
+        if parts[0] != "Rattle" or not os.path.isdir(os.path.join("crates", parts[1])):
+            found |= {it.strip().split(" as ")[0] for it in words.split(",")}
+    return found
 
 
 def of_source(text, names, mark):
+    taken = foreign(text)
+    names = {it: to for it, to in names.items() if it not in taken}
     here, lines = declared(text), []
     for line in text.split("\n"):
         parts = re.split(r'(b?"(?:[^"\\]|\\.)*")', line) if mark == "//" else [line]
@@ -111,6 +126,7 @@ def of_edit(text, names):
 
 
 def of_page(text, names):
+    names = {it: to for it, to in names.items() if it not in LETTERS}
     return re.sub(r"`[^`\n]*`", lambda it: turned(it[0], names), text)
 
 

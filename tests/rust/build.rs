@@ -1,5 +1,5 @@
 // Names the static library of the engine to the linker: ESFENRUK_DIR is the folder of libesfenruk.a,
-// absolute or from this folder; without it, where `rt staticlib esfenruk` writes.
+// absolute or from this folder; without it, where `rt lib` writes it.
 use std::{env, fs, path::Path};
 
 fn main() {
@@ -8,7 +8,7 @@ fn main() {
     if env::var_os("CARGO_FEATURE_LIBRARY").is_none() {
         return;
     }
-    let named = env::var("ESFENRUK_DIR").unwrap_or_else(|_| "../../target/staticlib".to_string());
+    let named = env::var("ESFENRUK_DIR").unwrap_or_else(|_| "../../crates/esfenruk/out".to_string());
     let library = Path::new(&named).join("libesfenruk.a");
     let library = fs::canonicalize(&library).unwrap_or_else(|e| {
         panic!("{}: {e}; set ESFENRUK_DIR to the folder of libesfenruk.a", library.display())
