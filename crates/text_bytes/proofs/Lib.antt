@@ -1,3 +1,2 @@
--- Laws of searching a byte, and of writing into a lent buffer.
-pub mod Searching
+-- Laws of writing behind a text of fixed room.
 pub mod Writing

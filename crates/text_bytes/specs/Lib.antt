@@ -1,3 +1,2 @@
--- The bytes of a text: one searched, and bytes written into a lent buffer.
-pub mod Reached
+-- Texts of fixed room: bytes written behind them.
 pub mod Written

@@ -1,49 +1,34 @@
-// The bytes of a text: one searched, and bytes written into a lent buffer.
+// The bytes of a text: one searched, and bytes written behind a text of fixed room.
 #![tactic(auto)]
 
-ghost use Rattle.std.specs.Prelude.{[], ◌∷◌, ◌≤◌, length};
-ghost use Rattle.text_bytes.specs.Reached.{Reached};
+ghost use Rattle.std.specs.Prelude.{◌≡◌, ◌==◌, [], ◌∷◌};
+ghost use Rattle.std.specs.List.{position};
 ghost use Rattle.text_bytes.specs.Written.{Adds};
+
+use arrayvec::ArrayVec;
 
 // ---- reading
 
-// Where a byte stands first from a place on, or the text's end.
-pub fn find(s: &[u8], b: u8, at: usize) -> usize
-    requires { at ≤ length s.now }
-    ensures { Reached s.now b at result }
+// Where a byte stands first.
+pub fn find(s: &[u8], b: u8) -> Option<usize>
+    ensures { result ≡ position (λ x. x == b) s.now }
 {
-    let mut i = at;
-    while i < s.len() {
-        if s[i] == b {
-            return i;
-        }
-        i += 1;
-    }
-    i
+    s.iter().position(|&x| x == b)
 }
 
 // ---- writing: behind the text that is there, as far as there is room
 
-// Puts a byte behind the first n of the buffer, if there is room, and answers how many there are then.
-pub fn put(buf: &mut [u8], n: usize, b: u8) -> usize
-    ensures { Adds buf.old n buf.new result (b ∷ []) }
+// Puts a byte behind the text, if there is room.
+pub fn put<const N: usize>(text: &mut ArrayVec<u8, N>, b: u8)
+    ensures { Adds N text.old.items text.new.items (b ∷ []) }
 {
-    if n < buf.len() {
-        buf[n] = b;
-        return n + 1;
-    }
-    n
+    let _full = text.try_push(b);
 }
 
 // The same of a run of bytes.
-pub fn put_all(buf: &mut [u8], n: usize, s: &[u8]) -> usize
-    ensures { Adds buf.old n buf.new result s.now }
+pub fn put_all<const N: usize>(text: &mut ArrayVec<u8, N>, s: &[u8])
+    ensures { Adds N text.old.items text.new.items s.now }
 {
-    let mut m = n;
-    let mut i = 0;
-    while i < s.len() {
-        m = put(buf, m, s[i]);
-        i += 1;
-    }
-    m
+    let room = text.remaining_capacity().min(s.len());
+    let _full = text.try_extend_from_slice(&s[..room]);
 }
