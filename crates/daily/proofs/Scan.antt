@@ -8,7 +8,7 @@ use mathlib.Core.Path.{◌≡◌, refl, sym, ◌∙◌, ap, subst}
 use mathlib.Core.Logic.{⊎_elim}
 use mathlib.Core.Bool.{Bool, true, false, not, cond, ◌&&◌, ◌||◌, true≢false, false≢true}
 use mathlib.Core.List.{List}
-use mathlib.Core.Option.{none, some}
+use Rattle.std.specs.Prelude.{None, Some}
 use Prim.Native.Nat.{ℕ, ◌+◌, ◌<◌}
 use native.Mathlib.Nat.{eq-or-lt_of_le, not-suc-le-zero}
 use native.Mathlib.Omega.{arith}
@@ -21,10 +21,8 @@ use Rattle.laws.proofs.Bools.{Known, is_true, is_false, known, and_true, and_lef
 use Rattle.laws.proofs.Offset.{side}
 use Rattle.laws.proofs.Tables.{all_at, all_from}
 use Rattle.quality.specs.Cell.{Cell, missing, slot}
-use Rattle.daily.specs.declared.Extreme.TheVariants.{Absent, Slot}
 use Rattle.daily.specs.declared.extremes.Tie.{Tie}
 use Rattle.daily.specs.declared.extremes.Tie.TheVariants.{Earliest, Latest}
-use Rattle.daily.specs.Coded.{slot_of}
 use Rattle.daily.specs.Extremes.{on_ties, utmost}
 use Rattle.daily.specs.Parts.{beyond, outdoes, ahead}
 use Rattle.daily.proofs.Ties.{Alone, on_ties_none, on_ties_some}
@@ -184,7 +182,7 @@ alone Earliest w ts j h e = λ i l. beaten w ts i j h.within e (and_right (not (
 alone Latest w ts j h e = λ i l k. beaten w ts i j h.within e (turned (missing (slot ts i)) (missing (slot ts j)) _ e (h.later i k l))
 
 module _ (t : Tie) (w : Bool) (ts : List Cell) (j : ℕ) (h : Leads t w ts j 8) where
-  found : missing (slot ts j) ≡ false → on_ties t (utmost (beyond w) ts) 8 ≡ some j
+  found : missing (slot ts j) ≡ false → on_ties t (utmost (beyond w) ts) 8 ≡ Some j
   found e =
       on_ties_some t (utmost (beyond w) ts) 8 j h.within
       (and_true (not (missing (slot ts j))) _ (ap not e)
@@ -196,7 +194,7 @@ module _ (t : Tie) (w : Bool) (ts : List Cell) (j : ℕ) (h : Leads t w ts j 8) 
       (λ m. behind (missing (slot ts i)) (missing (slot ts j)) _ _ e (stands t w (slot ts i).value (slot ts j).value) (h.later i l m)))))
       (alone t w ts j h e)
 
-  nothing : missing (slot ts j) ≡ true → on_ties t (utmost (beyond w) ts) 8 ≡ none
+  nothing : missing (slot ts j) ≡ true → on_ties t (utmost (beyond w) ts) 8 ≡ None
   nothing e =
       on_ties_none t (utmost (beyond w) ts) 8
       (λ i l.
@@ -206,6 +204,6 @@ module _ (t : Tie) (w : Bool) (ts : List Cell) (j : ℕ) (h : Leads t w ts j 8) 
       (λ m. gone (missing (slot ts i)) (missing (slot ts j)) _ e (h.later i l m)))))
 
   -- the answer, b saying whether j is missing
-  pub ended : (b : Bool) → missing (slot ts j) ≡ b → cond b Absent (Slot j) ≡ slot_of (on_ties t (utmost (beyond w) ts) 8)
-  ended true e = sym (ap slot_of (nothing e))
-  ended false e = sym (ap slot_of (found e))
+  pub ended : (b : Bool) → missing (slot ts j) ≡ b → cond b None (Some j) ≡ on_ties t (utmost (beyond w) ts) 8
+  ended true e = sym (nothing e)
+  ended false e = sym (found e)

@@ -1,14 +1,11 @@
--- What the code's answers say, in the paper's terms: for each enum, which case stands for what; and for the whole day line.
+-- What the code's answers say, in the paper's terms: which case of a mean stands for what; and for the whole day line.
 -- Assumes nothing.
-use Rattle.std.specs.Prelude.{◌≡◌, Bool, true, false, not, ℕ, T, ℤ, pos, negsuc, nat_abs, Float}
-use Rattle.std.proofs.Math.Option.{Option, none, some}
+use Rattle.std.specs.Prelude.{◌≡◌, Bool, true, false, not, T, ℤ, pos, negsuc, nat_abs, Float}
 use Rattle.std.specs.Float.{binary64}
 use Rattle.std.specs.Float.Ieee.{mul, of_int, of_bits, is_nan}
 use Rattle.std.specs.Float.Ieee.Exact.{HasValue}
 use Rattle.daily.specs.declared.Mean.{Mean}
 use Rattle.daily.specs.declared.Mean.TheVariants.{Absent, Read, Mended}
-use Rattle.daily.specs.declared.Rain.{Rain}
-use Rattle.daily.specs.declared.Extreme.{Extreme}
 use Rattle.daily.specs.declared.DayLine.{DayLine}
 use Rattle.daily.specs.Means.{Average, absent, read, mended}
 use Rattle.daily.specs.Line as Line
@@ -22,16 +19,6 @@ abbrev pub mean_of : Average → Mean
 mean_of absent = Absent
 mean_of (read s) = Read (eighth s)
 mean_of (mended s) = Mended (eighth s)
-
--- the rain that the code answers, in tenths of a millimetre
-abbrev pub rain_of : Option ℤ → Rain
-rain_of none = Rain.Absent
-rain_of (some z) = Rain.Tenths z
-
--- the slot that the code answers
-abbrev pub slot_of : Option ℕ → Extreme
-slot_of none = Extreme.Absent
-slot_of (some k) = Extreme.Slot k
 
 -- below 0
 abbrev pub negative : ℤ → Bool
@@ -67,9 +54,9 @@ pub record Says (r : DayLine) (l : Line.DayLine) : Type 0 where
   pub wind : SaysMean r.wind l.wind
   pub cloud : SaysMean r.cloud l.cloud
   pub vapour : SaysMean r.vapour l.vapour
-  pub rain : r.rain ≡ rain_of l.rain
-  pub warmest : r.warmest ≡ slot_of l.warmest
-  pub coldest : r.coldest ≡ slot_of l.coldest
+  pub rain : r.rain ≡ l.rain
+  pub warmest : r.warmest ≡ l.warmest
+  pub coldest : r.coldest ≡ l.coldest
   pub read : r.read ≡ l.read
   pub corrected : r.corrected ≡ l.corrected
   pub filled : r.filled ≡ l.filled

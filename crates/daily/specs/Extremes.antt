@@ -1,8 +1,7 @@
 -- "Warmest and coldest slot among 0 to 7, by checked T, the earliest on ties; absent without any T." Since S-7 the warmest is the latest:
 -- "Among equal temperatures the warmest slot is now the latest. The coldest slot keeps the earliest."
 -- Assumes nothing.
-use Rattle.std.specs.Prelude.{Bool, not, cond, ◌&&◌, ◌||◌, List, ℕ, zero, suc, ℤ}
-use Rattle.std.proofs.Math.Option.{Option, none, some}
+use Rattle.std.specs.Prelude.{Bool, not, cond, ◌&&◌, ◌||◌, List, ℕ, zero, suc, ℤ, Option, None, Some}
 use Rattle.std.specs.Int.Signed.{lt_z}
 use Rattle.laws.specs.All.{all}
 use Rattle.quality.specs.Cell.{Cell, missing, there, slot}
@@ -11,12 +10,12 @@ use Rattle.daily.specs.declared.extremes.Tie.TheVariants.{Earliest, Latest}
 
 -- which of 0 .. n - 1 it is at which p holds: where there are several, "the earliest on ties" or the latest
 unfoldable pub on_ties : Tie → (ℕ → Bool) → ℕ → Option ℕ
-on_ties tie p zero = none
-on_ties tie p (suc n) = choose tie (on_ties tie p n) (cond (p n) (some n) none)
+on_ties tie p zero = None
+on_ties tie p (suc n) = choose tie (on_ties tie p n) (cond (p n) (Some n) None)
   where
     or : Option ℕ → Option ℕ → Option ℕ
-    or none b = b
-    or (some k) b = some k
+    or None b = b
+    or (Some k) b = Some k
 
     choose : Tie → Option ℕ → Option ℕ → Option ℕ
     choose Earliest before last = or before last

@@ -1,7 +1,6 @@
 -- The day line of a station, from its slot heads and its checked sheet.
 -- Assumes nothing.
-use Rattle.std.specs.Prelude.{List, ℕ, ℤ}
-use Rattle.std.proofs.Math.Option.{Option}
+use Rattle.std.specs.Prelude.{List, ℕ, ℤ, Option}
 use Rattle.quality.specs.declared.head.SlotHead.{SlotHead}
 use Rattle.quality.specs.Cell.{Cell}
 use Rattle.quality.specs.Elements.{column, temperature, dew_point, pressure, wind, cloud, rain}

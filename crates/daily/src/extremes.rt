@@ -3,11 +3,9 @@ ghost use Rattle.std.specs.Prelude.{◌≡◌, cond, ◌<◌};
 ghost use Rattle.laws.specs.Offset as Offset;
 ghost use Rattle.quality.specs.Cell as Cell;
 ghost use Rattle.quality.specs.Coded.{cell, cells};
-ghost use Rattle.daily.specs.Coded.{slot_of};
 ghost use Rattle.daily.specs.Extremes.{on_ties, utmost};
 ghost use Rattle.daily.specs.Parts as Parts;
 
-use crate::Extreme;
 use quality::column::{Column, OffsetCell, at, is_missing};
 
 // Which of several slots with the same temperature counts.
@@ -57,15 +55,15 @@ fn better(tie: Tie, warmer: bool, t: Column, best: usize, k: usize) -> usize
 }
 
 // The warmest slot among 0 to 7, or else the coldest: the earliest or the latest on ties.
-pub fn extreme(tie: Tie, warmer: bool, t: Column) -> Extreme
-    ensures { result ≡ slot_of (on_ties tie (utmost (Parts.beyond warmer) (cells t)) 8) }
+pub fn extreme(tie: Tie, warmer: bool, t: Column) -> Option<usize>
+    ensures { result ≡ on_ties tie (utmost (Parts.beyond warmer) (cells t)) 8 }
 {
     let mut best = 0;
     for k in 1..8 {
         best = better(tie, warmer, t, best, k);
     }
     if is_missing(at(t, best)) {
-        return Extreme::Absent;
+        return None;
     }
-    Extreme::Slot(best)
+    Some(best)
 }

@@ -13,21 +13,7 @@ pub enum Mean {
     Mended(f64),
 }
 
-// The day's rain in tenths of a millimetre.
-#[derive(Clone, Copy)]
-pub enum Rain {
-    Absent,
-    Tenths(i32),
-}
-
-// The warmest or the coldest slot.
-#[derive(Clone, Copy)]
-pub enum Extreme {
-    Absent,
-    Slot(usize),
-}
-
-// The means, the rain, the extremes, and the counts of the 81 cells by their state.
+// The means; the day's rain in tenths of a millimetre; the warmest and the coldest slot; and the counts of the 81 cells by their state.
 #[derive(Clone, Copy)]
 pub struct DayLine {
     pub temperature: Mean,
@@ -36,9 +22,9 @@ pub struct DayLine {
     pub wind: Mean,
     pub cloud: Mean,
     pub vapour: Mean,
-    pub rain: Rain,
-    pub warmest: Extreme,
-    pub coldest: Extreme,
+    pub rain: Option<i32>,
+    pub warmest: Option<usize>,
+    pub coldest: Option<usize>,
     pub read: u32,
     pub corrected: u32,
     pub filled: u32,
