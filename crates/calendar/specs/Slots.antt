@@ -2,9 +2,7 @@
 --     slot_of                the slot that a report's YY and GG name
 --     slot_day, slot_hour     the YY and GG that name a slot
 -- Assumes nothing.
-use Rattle.std.specs.Prelude.{cond, List, [], ◌∷◌, ◌++◌, ℕ, suc, ltb, eqb, get_or}
-use Rattle.calendar.specs.declared.Slot.{Slot}
-use Rattle.calendar.specs.declared.Slot.TheVariants.{At, Nothing}
+use Rattle.std.specs.Prelude.{cond, List, [], ◌∷◌, ◌++◌, ℕ, suc, ltb, eqb, get_or, Option, None, Some}
 use Rattle.calendar.specs.Dates.{next_day}
 
 -- "Nine slots: 0 to 5 are 06, 09, 12, 15, 18, 21 UTC of D; .."
@@ -16,14 +14,14 @@ abbrev pub hours_after : List ℕ
 hours_after = 0 ∷ 3 ∷ 6 ∷ []
 
 -- the slot of an hour, where the hours of a day are those of the slots k, k + 1, ..
-abbrev pub slot_at : ℕ → List ℕ → ℕ → Slot
-slot_at k [] gg = Nothing
-slot_at k (hour ∷ hours) gg = cond (eqb gg hour) (At k) (slot_at (suc k) hours gg)
+abbrev pub slot_at : ℕ → List ℕ → ℕ → Option ℕ
+slot_at k [] gg = None
+slot_at k (hour ∷ hours) gg = cond (eqb gg hour) (Some k) (slot_at (suc k) hours gg)
 
 -- "A report gives YY (day of the month) and GG (hour); both must match a slot."
-unfoldable pub slot_of : ℕ → ℕ → ℕ → ℕ → ℕ → Slot
+unfoldable pub slot_of : ℕ → ℕ → ℕ → ℕ → ℕ → Option ℕ
 slot_of year month day yy gg =
-    cond (eqb yy day) (slot_at 0 hours_of_d gg) (cond (eqb yy (next_day year month day)) (slot_at 6 hours_after gg) Nothing)
+    cond (eqb yy day) (slot_at 0 hours_of_d gg) (cond (eqb yy (next_day year month day)) (slot_at 6 hours_after gg) None)
 
 -- YY of slot k
 abbrev pub slot_day : ℕ → ℕ → ℕ → ℕ → ℕ

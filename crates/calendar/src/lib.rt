@@ -1,15 +1,17 @@
 // The calendar of a store's day D: which dates are real, the day after D, and the slot that a report's day and hour name.
 #![tactic(auto)]
 
-ghost use Rattle.std.specs.Prelude.{◌≡◌};
-ghost use Rattle.calendar.specs.Dates.{leap, thirty, days_in, is_date, next_day};
-ghost use Rattle.calendar.specs.Slots.{hours_of_d, hours_after, slot_at, slot_of};
+ghost use Rattle.std.specs.Prelude.{◌≡◌, ◌==◌};
+ghost use Rattle.std.specs.List.{position};
+ghost use Rattle.calendar.specs.Dates.{leap, days_in, is_date, next_day};
+ghost use Rattle.calendar.specs.Slots.{slot_of};
 
-// The slot that a report is for, 0 to 8.
-#[derive(Clone, Copy)]
-pub enum Slot {
-    At(usize),
-    Nothing,
+// A day, by its numbers; `is_date` tells whether it is one.
+#[derive(Clone, Copy, Debug, PartialEq, Eq)]
+pub struct Date {
+    pub year: u32,
+    pub month: u32,
+    pub day: u32,
 }
 
 fn is_leap(year: u32) -> bool
@@ -18,84 +20,62 @@ fn is_leap(year: u32) -> bool
     (year % 4 == 0) & (!(year % 100 == 0) | (year % 400 == 0))
 }
 
-fn has_thirty(month: u32) -> bool
-    ensures { result ≡ thirty month }
-{
-    (month == 4) | (month == 6) | (month == 9) | (month == 11)
-}
-
 // The number of days of a month.
+#[tactic(auto, unfolding(crate::specs::Dates::days_in))]
 fn days_in(year: u32, month: u32) -> u32
     ensures { result ≡ days_in year month }
 {
-    if month == 2 {
-        if is_leap(year) {
-            return 29;
-        }
-        return 28;
+    match month {
+        2 if is_leap(year) => 29,
+        2 => 28,
+        4 | 6 | 9 | 11 => 30,
+        _ => 31,
     }
-    if has_thirty(month) {
-        return 30;
-    }
-    31
 }
 
 // Whether a store can have this date: a real one of the years 2000 to 2099.
 #[tactic(auto, unfolding(crate::specs::Dates::is_date))]
-pub fn is_date(year: u32, month: u32, day: u32) -> bool
-    ensures { result ≡ is_date year month day }
+pub fn is_date(date: Date) -> bool
+    ensures { result ≡ is_date date.year date.month date.day }
 {
-    let last = days_in(year, month);
-    (2000 <= year) & (year <= 2099) & (1 <= month) & (month <= 12) & (1 <= day) & (day <= last)
+    let last = days_in(date.year, date.month);
+    (2000 <= date.year)
+        & (date.year <= 2099)
+        & (1 <= date.month)
+        & (date.month <= 12)
+        & (1 <= date.day)
+        & (date.day <= last)
 }
 
 // The day of the month of the day after.
 #[tactic(auto, using(crate::proofs::Dates::days_within), unfolding(crate::specs::Dates::next_day))]
-fn next_day(year: u32, month: u32, day: u32) -> u32
-    ensures { result ≡ next_day year month day }
+fn next_day(date: Date) -> u32
+    ensures { result ≡ next_day date.year date.month date.day }
 {
-    if day < days_in(year, month) {
-        return day + 1;
+    if date.day < days_in(date.year, date.month) {
+        return date.day + 1;
     }
     1
 }
 
-// The slot of an hour of D.
-fn slot_of_d(gg: u32) -> Slot
-    ensures { result ≡ slot_at 0 hours_of_d gg }
+// The place of an hour among the hours of a day's slots.
+fn place_of(hours: &[u32], gg: u32) -> Option<usize>
+    ensures { result ≡ position (λ hour. gg == hour) hours.now }
 {
-    match gg {
-        6 => Slot::At(0),
-        9 => Slot::At(1),
-        12 => Slot::At(2),
-        15 => Slot::At(3),
-        18 => Slot::At(4),
-        21 => Slot::At(5),
-        _ => Slot::Nothing,
-    }
-}
-
-// The slot of an hour of D+1.
-fn slot_after(gg: u32) -> Slot
-    ensures { result ≡ slot_at 6 hours_after gg }
-{
-    match gg {
-        0 => Slot::At(6),
-        3 => Slot::At(7),
-        6 => Slot::At(8),
-        _ => Slot::Nothing,
-    }
+    hours.iter().position(|&hour| gg == hour)
 }
 
 // The slot of D that a report's day of the month and hour name.
-pub fn slot_of(year: u32, month: u32, day: u32, yy: u32, gg: u32) -> Slot
-    ensures { result ≡ slot_of year month day yy gg }
+#[tactic(auto, unfolding(crate::specs::Slots::slot_of))]
+pub fn slot_of(date: Date, yy: u32, gg: u32) -> Option<usize>
+    ensures { result ≡ slot_of date.year date.month date.day yy gg }
 {
-    if yy == day {
-        return slot_of_d(gg);
+    if yy == date.day {
+        return place_of(&[6, 9, 12, 15, 18, 21], gg);
     }
-    if yy == next_day(year, month, day) {
-        return slot_after(gg);
+    if yy == next_day(date) {
+        let place = place_of(&[0, 3, 6], gg)?;
+        return Some(6 + place);
     }
-    Slot::Nothing
+    None
 }
