@@ -1,149 +1,147 @@
--- How the groups of a text go on from a place: one blank, one character or one whole group further.
+-- How the groups of a text go on: past the blanks before a group, and past the group.
 -- Assumes nothing.
 use mathlib.Core.Path.{◌≡◌, refl, sym, ◌∙◌, ap, subst}
-use mathlib.Core.Bool.{Bool, true, false}
-use mathlib.Core.List.{List, [], ◌∷◌, ◌++◌, map}
-use Prim.Native.Nat.{ℕ, suc, ◌+◌, ◌-◌, ◌<◌, ◌≤◌}
-use native.Mathlib.Numerals.{add-one}
-use mathlib.Core.Logic.{⊎_elim}
-use native.Mathlib.Nat.{sub_self, eq-or-lt_of_le, lt_of_le_of_lt}
+use mathlib.Core.Bool.{true, false, not}
+use mathlib.Core.List.{List, [], ◌∷◌, ◌++◌, append-nil, append_assoc}
+use Prim.Native.Nat.{ℕ, suc, ◌+◌, ◌<◌, ◌≤◌}
 use native.Mathlib.Omega.{arith}
-use lib.ListN.{length, take, drop, get_or, length-drop, drop_of_length-le}
-use lib.Seq.{drop-cons, take-suc, get_or-drop, length-take-le}
+use borrow.Author.Tests.{ltb-true, ltb-false}
+use lib.Dec.{ltb}
+use lib.ListN.{length, take, drop, drop_of_length-le, length-drop}
+use lib.Seq.{take-length}
+use Rattle.std.proofs.lemmas.List.{drop-drop}
+use Rattle.std.specs.Prelude.{None, Some, slice_range}
+use Rattle.std.specs.Option.{unwrap_or}
+use Rattle.std.specs.List.{position, position_or_len}
+use Rattle.std.proofs.lemmas.List.Sums.{prefix_len-le-length}
+use Rattle.laws.proofs.Bools.{is_true, is_false, known}
 use Rattle.synop_text.specs.Characters.{parts}
-use Rattle.synop_text.specs.Groups.{cut, groups}
-use Rattle.synop_text.specs.Walk.{part, Skipped, Ended, Bounds, Kind}
-use Rattle.synop_text.specs.Kinds.{kind_of, tokens}
-use Rattle.synop_text.specs.declared.Group.{Group}
-use Rattle.laws.proofs.Bools.{via}
+use Rattle.synop_text.specs.Groups.{cut, groups, closed}
+use Rattle.synop_text.specs.Walk.{Bounds}
 
--- ---- on the list itself
-cut_blank : (b : ℕ) (s : List ℕ) → parts b ≡ true → cut [] (b ∷ s) ≡ cut [] s
+-- the characters before the next group, and those of the group
+abbrev pub gap_of : List ℕ → ℕ
+gap_of s = position_or_len (λ b. not (parts b)) s
+
+abbrev pub run_of : List ℕ → ℕ
+run_of s = position_or_len parts s
+
+-- the next blank, the first character known
+run_blank : (b : ℕ) (s : List ℕ) → parts b ≡ true → run_of (b ∷ s) ≡ 0
+run_blank b s t = rw t
+
+run_more : (b : ℕ) (s : List ℕ) → parts b ≡ false → run_of (b ∷ s) ≡ suc (run_of s)
+run_more b s f = rw f (omega arith)
+
+gap_blank : (b : ℕ) (s : List ℕ) → parts b ≡ true → gap_of (b ∷ s) ≡ suc (gap_of s)
+gap_blank b s t = rw t (omega arith)
+
+gap_none : (b : ℕ) (s : List ℕ) → parts b ≡ false → gap_of (b ∷ s) ≡ 0
+gap_none b s f = rw f
+
+cut_blank : (read : List ℕ) (b : ℕ) (s : List ℕ) → parts b ≡ true → cut read (b ∷ s) ≡ closed read (groups s)
 unfolding cut
-cut_blank b s e = rw e
+cut_blank read b s t = rw t
 
-cut_more : (run : List ℕ) (b : ℕ) (s : List ℕ) → parts b ≡ false → cut run (b ∷ s) ≡ cut (run ++ b ∷ []) s
+cut_more : (read : List ℕ) (b : ℕ) (s : List ℕ) → parts b ≡ false → cut read (b ∷ s) ≡ cut (read ++ b ∷ []) s
 unfolding cut
-cut_more run b s e = rw e
+cut_more read b s f = rw f
 
-cut_whole : (run : List ℕ) (b : ℕ) (s : List ℕ) → 0 < length run → parts b ≡ true → cut run (b ∷ s) ≡ run ∷ cut [] (b ∷ s)
+cut_end : (read : List ℕ) → cut read [] ≡ closed (read ++ []) (groups [])
 unfolding cut
-cut_whole [] b s h e = absurd (omega arith)
-cut_whole (a ∷ run) b s h e = rw e
+cut_end read = ap (λ (r : List ℕ). closed r []) (sym (append-nil read))
 
-cut_last : (run : List ℕ) → 0 < length run → cut run [] ≡ run ∷ cut [] []
+pub no_text : groups [] ≡ []
 unfolding cut
-cut_last [] h = absurd (omega arith)
-cut_last (a ∷ run) h = refl
+no_text = refl
 
--- ---- at places of a text
-module _ (s : List ℕ) where
-  -- past a blank
-  pub skip_more : (i : ℕ) → i < length s → parts (get_or s i 0) ≡ true → groups (drop i s) ≡ groups (drop (i + 1) s)
-  skip_more i h e = ap (cut []) (drop-cons s i 0 h) ∙ cut_blank (get_or s i 0) (drop (suc i) s) e ∙ ap (λ (k : ℕ). cut [] (drop k s)) (sym (add-one i))
+-- a group of which `read` has been read goes on to the next blank
+past_run : (read s : List ℕ) → cut read s ≡ closed (read ++ take (run_of s) s) (groups (drop (run_of s) s))
+past_run read [] = cut_end read
+past_run read (b ∷ s) =
+    elim (known (parts b)) [
+      | is_true t ↦ rw (run_blank b s t, append-nil, cut_blank read b s t, cut_blank [] b s t) refl
+      | is_false f ↦
+          rw (run_more b s f, cut_more read b s f) (past_run (read ++ b ∷ []) s ∙ ap (λ (r : List ℕ). closed r (groups (drop (run_of s) s))) (append_assoc read (b ∷ []) (take (run_of s) s)))
+    ]
 
-  pub part_none : (start : ℕ) → part s start start ≡ []
-  part_none start = rw sub_self
+-- the text from `start` on begins with a group, which is the first of s
+pub record Starts (s rest : List ℕ) : Type 0 where
+  pub some : 0 < run_of rest
+  pub first : groups s ≡ take (run_of rest) rest ∷ groups (drop (run_of rest) rest)
 
-  -- one character more
-  part_more : (start i : ℕ) → start ≤ i → i < length s → part s start (i + 1) ≡ part s start i ++ get_or s i 0 ∷ []
-  part_more start i l h =
-      ap (λ (k : ℕ). take k (drop start s)) one
-      ∙ take-suc (drop start s) (i - start) 0 (rw length-drop (omega arith))
-      ∙ ap (λ (x : ℕ). part s start i ++ x ∷ []) (get_or-drop start s (i - start) 0 ∙ ap (λ (k : ℕ). get_or s k 0) back)
-    where
-      one : i + 1 - start ≡ suc (i - start)
-      one = omega arith
+pub starts : (s : List ℕ) → gap_of s < length s → Starts s (drop (gap_of s) s)
+starts [] h = absurd (omega arith)
+starts (b ∷ s) h =
+    elim (known (parts b)) [
+      | is_true t ↦
+          rw (gap_blank b s t) (let v = starts s (omega (arith, gap_blank b s t)) in record { some = v.some; first = cut_blank [] b s t ∙ v.first })
+      | is_false f ↦
+          rw (gap_none b s f) (record { some = rw (run_more b s f) (omega arith); first = cut_more [] b s f ∙ past_run (b ∷ []) s ∙ rw (run_more b s f) refl })
+    ]
 
-      back : start + (i - start) ≡ i
-      back = omega arith
+-- and a text in which no group starts has none
+pub no_group : (s : List ℕ) → length s ≤ gap_of s → groups s ≡ []
+no_group [] h = no_text
+no_group (b ∷ s) h =
+    elim (known (parts b)) [
+      | is_true t ↦ cut_blank [] b s t ∙ no_group s (omega (arith, gap_blank b s t))
+      | is_false f ↦ let g = gap_none b s f in absurd (omega arith)
+    ]
 
-  pub run_more : (start i : ℕ) → start ≤ i → i < length s → parts (get_or s i 0) ≡ false → cut (part s start i) (drop i s) ≡ cut (part s start (i + 1)) (drop (i + 1) s)
-  run_more start i l h e =
-      ap (cut (part s start i)) (drop-cons s i 0 h)
-      ∙ cut_more (part s start i) (get_or s i 0) (drop (suc i) s) e
-      ∙ ap (λ (r : List ℕ). cut r (drop (suc i) s)) (sym (part_more start i l h))
-      ∙ ap (λ (k : ℕ). cut (part s start (i + 1)) (drop k s)) (sym (add-one i))
+-- ---- what the code finds
+-- the next blank, or the end of the text
+run_is : (s : List ℕ) → unwrap_or (position parts s) (length s) ≡ run_of s
+run_is s =
+    elim (known (ltb (run_of s) (length s))) [
+      | is_true t ↦ rw t refl
+      | is_false f ↦ rw f (omega (arith, ltb-false (run_of s) (length s) f, prefix_len-le-length (λ b. not (parts b)) s))
+    ]
 
-  -- a group that is not empty is whole where the text ends or a blank stands
-  pub run_end : (start i : ℕ) → start < i → i ≤ length s → (i < length s → parts (get_or s i 0) ≡ true) → cut (part s start i) (drop i s) ≡ part s start i ∷ groups (drop i s)
-  run_end start i l u e = go (drop i s) refl
-    where
-      long : 0 < length (part s start i)
-      long = rw (length-take-le (i - start) (drop start s) (rw length-drop (omega arith))) (omega arith)
+-- no group starts past the end
+pub none_left : (s : List ℕ) (at : ℕ) → length s ≤ at → groups (drop at s) ≡ []
+none_left s at h = rw (drop_of_length-le s h) no_text
 
-      go : (t : List ℕ) → drop i s ≡ t → cut (part s start i) t ≡ part s start i ∷ groups t
-      go [] q = cut_last (part s start i) long
-      go (b ∷ t) q = cut_whole (part s start i) b t long (subst (λ (x : ℕ). parts x ≡ true) first (e more))
-        where
-          first : get_or s i 0 ≡ b
-          first = ap (λ (k : ℕ). get_or s k 0) (omega arith) ∙ sym (get_or-drop i s 0 0) ∙ ap (λ (l : List ℕ). get_or l 0 0) q
+-- the text from a place on, as the code has it
+tail : (s : List ℕ) (at : ℕ) → slice_range s at (length s) ≡ drop at s
+tail s at = ap (λ (n : ℕ). take n (drop at s)) (sym (length-drop at s)) ∙ take-length (drop at s)
 
-          more : i < length s
-          more = omega (arith, length-drop i s, ap length q)
+-- what the code found in it, at the place where a group starts
+placed : (s : List ℕ) (j : ℕ) → position (λ b. not (parts b)) s ≡ Some j → (j ≡ gap_of s) × (gap_of s < length s)
+placed s j e =
+    elim (known (ltb (gap_of s) (length s))) [
+      | is_true t ↦ let q : Some (gap_of s) ≡ Some j = rw t at e in (cc, ltb-true (gap_of s) (length s) t)
+      | is_false f ↦ let q : None ≡ Some j = rw f at e in let z : ◌≡◌ {A = ℕ} 0 1 = cc in absurd (omega arith)
+    ]
 
-  -- no group starts past the end
-  pub none_left : (i : ℕ) → length s ≤ i → groups (drop i s) ≡ []
-  unfolding cut
-  none_left i h = rw (drop_of_length-le s h)
+pub none_after : (s rest : List ℕ) (at : ℕ) → rest ≡ slice_range s at (length s) → position (λ b. not (parts b)) rest ≡ None → groups (drop at s) ≡ []
+none_after s rest at r e =
+    elim (known (ltb (gap_of rest) (length rest))) [
+      | is_true t ↦ let q : Some (gap_of rest) ≡ None = rw t at e in let z : ◌≡◌ {A = ℕ} 0 1 = cc in absurd (omega arith)
+      | is_false f ↦ ap groups (sym (r ∙ tail s at)) ∙ no_group rest (ltb-false (gap_of rest) (length rest) f)
+    ]
 
--- ---- the two loops; r is what the code's test of the character at i answered
--- blanks alone stand from `at` to i
-pub record Skipping (s : List ℕ) (at i : ℕ) : Type 0 where
-  pub from : at ≤ i
-  pub upto : i ≤ length s
-  pub same : groups (drop at s) ≡ groups (drop i s)
-
--- the characters from `start` to i are of one group
-pub record Running (s : List ℕ) (start i : ℕ) : Type 0 where
-  pub from : start ≤ i
-  pub upto : i ≤ length s
-  pub same : groups (drop start s) ≡ cut (part s start i) (drop i s)
-
-module _ {s : List ℕ} {at i : ℕ} {r : Bool} where
-  pub skipping_more : Skipping s at i → i < length s → r ≡ parts (get_or s i 0) → r ≡ true → Skipping s at (i + 1)
-  skipping_more v h e t = record { from = omega arith; upto = omega arith; same = v.same ∙ skip_more s i h (via e t) }
-
-  pub skipped_here : Skipping s at i → r ≡ parts (get_or s i 0) → r ≡ false → Skipped s at i
-  skipped_here v e t = record { from = v.from; upto = v.upto; same = v.same; here = λ h. via e t }
-
-  pub running_more : Running s at i → i < length s → r ≡ parts (get_or s i 0) → r ≡ false → Running s at (i + 1)
-  running_more v h e t = record { from = omega arith; upto = omega arith; same = v.same ∙ run_more s at i v.from h (via e t) }
-
-  pub ended_here : Running s at i → r ≡ parts (get_or s i 0) → r ≡ true → Ended s at i
-  ended_here v e t = record { from = v.from; upto = v.upto; same = v.same; here = λ h. via e t }
-
-module _ {s : List ℕ} {at i : ℕ} where
-  pub skipped_end : Skipping s at i → length s ≤ i → Skipped s at i
-  skipped_end v l = record { from = v.from; upto = v.upto; same = v.same; here = λ h. absurd (omega arith) }
-
-  pub ended_end : Running s at i → length s ≤ i → Ended s at i
-  ended_end v l = record { from = v.from; upto = v.upto; same = v.same; here = λ h. absurd (omega arith) }
-
-pub running_none : (s : List ℕ) (start : ℕ) → start ≤ length s → Running s start start
-running_none s start h = record { from = omega arith; upto = h; same = ap (λ (r : List ℕ). cut r (drop start s)) (sym (part_none s start)) }
-
--- ---- a step
-pub stepped : {s : List ℕ} {at start end : ℕ} → Skipped s at start → start < length s → Ended s start end → Bounds s at start end end
-stepped {s} {at} {start} {end} k h e =
+-- a step
+bounds : (s : List ℕ) (at start n : ℕ) → at ≤ start → start ≤ length s → Starts (drop at s) (drop start s) → n ≡ run_of (drop start s) → Bounds s at start (start + n)
+bounds s at start n l u v e =
     record {
-      ordered = e.from;
-      upto = e.upto;
-      onward = lt_of_le_of_lt k.from longer;
-      within = e.upto;
-      first = k.same ∙ e.same ∙ run_end s start end longer e.upto e.here;
+      ordered = omega arith;
+      upto = omega (arith, prefix_len-le-length (λ b. not (parts b)) (drop start s), length-drop start s);
+      onward = let p = v.some in omega arith;
+      first = v.first ∙ rw (sym e, drop-drop) (ap (λ (k : ℕ). take k (drop start s) ∷ groups (drop (start + n) s)) (omega arith));
     }
+
+pub stepped : (s rest : List ℕ) (at j n : ℕ) → rest ≡ slice_range s at (length s) → position (λ b. not (parts b)) rest ≡ Some j → n ≡ unwrap_or (position parts (slice_range s (at + j) (length s))) (length (slice_range s (at + j) (length s))) → Bounds s at (at + j) (at + j + n)
+stepped s rest at j n r e h = bounds s at (at + j) n (omega arith) (omega (arith, p, ap length from, length-drop at s)) here (h ∙ run_is (slice_range s (at + j) (length s)) ∙ ap run_of (tail s (at + j)))
   where
-    apart : {b : Bool} → b ≡ false → b ≡ true → ⊥
-    apart p q = let z : ◌≡◌ {A = ℕ} 0 1 = cc in omega arith
+    p : (j ≡ gap_of rest) × (gap_of rest < length rest)
+    p = placed rest j e
 
-    same_place : start ≡ end → ⊥
-    same_place q = apart (k.here h) (subst (λ (i : ℕ). i < length s → parts (get_or s i 0) ≡ true) (sym q) e.here h)
+    from : rest ≡ drop at s
+    from = r ∙ tail s at
 
-    longer : start < end
-    longer = ⊎_elim (λ q. absurd (same_place q)) (λ l. l) (eq-or-lt_of_le e.from)
+    there : drop (gap_of rest) rest ≡ drop (at + j) s
+    there = ap (λ (k : ℕ). drop k rest) (sym p.0) ∙ ap (drop j) from ∙ drop-drop j at s
 
--- ---- the same of kinds
-pub kinded : {s : List ℕ} {at start end next : ℕ} {g : Group} → Bounds s at start end next → g ≡ kind_of (part s start end) → Kind s at g next
-kinded {s} {at} {start} {end} {next} b e =
-    record { onward = b.onward; within = b.within; first = ap (map kind_of) b.first ∙ ap (λ (k : Group). k ∷ tokens (drop next s)) (sym e) }
+    here : Starts (drop at s) (drop (at + j) s)
+    here = subst (λ (t : List ℕ). Starts (drop at s) t) there (subst (λ (t : List ℕ). Starts t (drop (gap_of rest) rest)) from (starts rest p.1))

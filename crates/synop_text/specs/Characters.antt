@@ -1,6 +1,7 @@
 -- The characters of a report, by their codes.
 -- Assumes nothing.
 use Rattle.std.specs.Prelude.{Bool, ◌&&◌, ◌||◌, ℕ, leb, eqb}
+use Rattle.synop_text.specs.declared.Characters.{Characters}
 
 -- "Groups are parted by spaces, CR or LF"; the closing `=` belongs to no group either
 abbrev pub parts : ℕ → Bool
@@ -14,5 +15,5 @@ is_digit b = leb 48 b && leb b 57
 abbrev pub is_figure : ℕ → Bool
 is_figure b = eqb b 47 || is_digit b
 
-unfoldable pub are_figures : ℕ → ℕ → ℕ → ℕ → ℕ → Bool
-are_figures a b c d e = (((is_figure a && is_figure b) && is_figure c) && is_figure d) && is_figure e
+unfoldable pub are_figures : Characters → Bool
+are_figures x = (((is_figure x.a && is_figure x.b) && is_figure x.c) && is_figure x.d) && is_figure x.e

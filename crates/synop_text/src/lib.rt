@@ -1,13 +1,24 @@
 // The text of a report as groups. A cursor walks the groups, one step a group, and each group is of a kind.
 #![tactic(auto)]
 
-ghost use Rattle.std.specs.Prelude.{◌≡◌, ◌≤◌, length};
+ghost use Rattle.std.specs.Prelude.{◌≡◌, not};
+ghost use Rattle.std.specs.List.{position};
 ghost use Rattle.synop_text.specs.Characters as characters;
 ghost use Rattle.synop_text.specs.Kinds as kinds;
-ghost use Rattle.synop_text.specs.Walk.{Skipped, Ended, Stepped, Taken};
+ghost use Rattle.synop_text.specs.Walk.{Stepped, Taken};
+
+// The five characters of a group.
+#[derive(Clone, Copy, Debug, PartialEq, Eq)]
+pub struct Characters {
+    pub a: u8,
+    pub b: u8,
+    pub c: u8,
+    pub d: u8,
+    pub e: u8,
+}
 
 // What kind of group it is.
-#[derive(Clone, Copy)]
+#[derive(Clone, Copy, Debug, PartialEq, Eq)]
 pub enum Group {
     // None of the kinds below. It stands first so that it is also what a list of groups has past its end.
     Other,
@@ -16,31 +27,20 @@ pub enum Group {
     // `333`, `444` or `555`, by the section's number.
     Section(u8),
     // Five characters, each a digit or `/`.
-    Five(u8, u8, u8, u8, u8),
+    Five(Characters),
+}
+
+// Where a group stands in the text: from `start` up to `end`.
+#[derive(Clone, Copy, Debug, PartialEq, Eq)]
+pub struct Span {
+    pub start: usize,
+    pub end: usize,
 }
 
 // A place in the text between two groups.
 #[derive(Clone, Copy)]
 pub struct Cursor {
     pub at: usize,
-}
-
-// One step of the cursor: the next group's bounds and the cursor after it.
-#[derive(Clone, Copy)]
-pub enum Step {
-    Group {
-        start: usize,
-        end: usize,
-        next: Cursor,
-    },
-    End,
-}
-
-// The same with the group's kind in place of its bounds.
-#[derive(Clone, Copy)]
-pub enum Token {
-    Group(Group, Cursor),
-    End,
 }
 
 // ---- characters
@@ -64,108 +64,66 @@ fn is_figure(b: u8) -> bool
     (b == b'/') | is_digit(b)
 }
 
+#[tactic(auto, unfolding(crate::specs::Characters::are_figures))]
+fn are_figures(x: Characters) -> bool
+    ensures { result ≡ characters.are_figures x }
+{
+    is_figure(x.a) & is_figure(x.b) & is_figure(x.c) & is_figure(x.d) & is_figure(x.e)
+}
+
 // ---- kinds
 
-#[tactic(auto, unfolding(crate::specs::Kinds::of_three))]
-fn of_three(a: u8, b: u8, c: u8) -> Group
-    ensures { result ≡ kinds.of_three a b c }
-{
-    let nil = (a == b'N') & (b == b'I') & (c == b'L');
-    let three = (a == b'3') & (b == b'3') & (c == b'3');
-    let four = (a == b'4') & (b == b'4') & (c == b'4');
-    let five = (a == b'5') & (b == b'5') & (c == b'5');
-    if nil {
-        return Group::Nil;
-    }
-    if three {
-        return Group::Section(3);
-    }
-    if four {
-        return Group::Section(4);
-    }
-    if five {
-        return Group::Section(5);
-    }
-    Group::Other
-}
-
-#[tactic(auto, unfolding(crate::specs::Kinds::of_four))]
-fn of_four(a: u8, b: u8, c: u8, d: u8) -> Group
-    ensures { result ≡ kinds.of_four a b c d }
-{
-    let aaxx = (a == b'A') & (b == b'A') & (c == b'X') & (d == b'X');
-    if aaxx {
-        return Group::Aaxx;
-    }
-    Group::Other
-}
-
-#[tactic(auto, unfolding(crate::specs::Characters::are_figures))]
-fn are_figures(a: u8, b: u8, c: u8, d: u8, e: u8) -> bool
-    ensures { result ≡ characters.are_figures a b c d e }
-{
-    is_figure(a) & is_figure(b) & is_figure(c) & is_figure(d) & is_figure(e)
-}
-
 #[tactic(auto, unfolding(crate::specs::Kinds::of_five))]
-fn of_five(a: u8, b: u8, c: u8, d: u8, e: u8) -> Group
-    ensures { result ≡ kinds.of_five a b c d e }
+fn of_five(x: Characters) -> Group
+    ensures { result ≡ kinds.of_five x }
 {
-    if are_figures(a, b, c, d, e) {
-        return Group::Five(a, b, c, d, e);
+    if are_figures(x) {
+        return Group::Five(x);
     }
     Group::Other
 }
 
 // The kind of a group, by its characters.
-#[tactic(auto, using(crate::proofs::Lengths::three, crate::proofs::Lengths::four, crate::proofs::Lengths::five, crate::proofs::Lengths::others))]
+#[tactic(auto, using(crate::proofs::Lengths::other_three, crate::proofs::Lengths::three, crate::proofs::Lengths::four, crate::proofs::Lengths::five, crate::proofs::Lengths::others), unfolding(crate::specs::Kinds::of_three, crate::specs::Kinds::of_four))]
 pub fn kind_of(g: &[u8]) -> Group
     ensures { result ≡ kinds.kind_of g.now }
 {
-    let n = g.len();
-    if n == 5 {
-        return of_five(g[0], g[1], g[2], g[3], g[4]);
+    match g {
+        b"AAXX" => Group::Aaxx,
+        b"NIL" => Group::Nil,
+        b"333" => Group::Section(3),
+        b"444" => Group::Section(4),
+        b"555" => Group::Section(5),
+        &[a, b, c, d, e] => of_five(Characters { a, b, c, d, e }),
+        _ => Group::Other,
     }
-    if n == 3 {
-        return of_three(g[0], g[1], g[2]);
+}
+
+// The characters of a group of five.
+#[tactic(auto, unfolding(crate::specs::Kinds::characters_of))]
+pub fn characters_of(g: Group) -> Option<Characters>
+    ensures { result ≡ kinds.characters_of g }
+{
+    match g {
+        Group::Five(x) => Some(x),
+        _ => None,
     }
-    if n == 4 {
-        return of_four(g[0], g[1], g[2], g[3]);
-    }
-    Group::Other
 }
 
 // ---- the walk
 
-// Where the next group starts, or the text's end.
-fn skip(s: &[u8], at: usize) -> usize
-    requires { at ≤ length s.now }
-    ensures { Skipped s.now at result }
+// Where the first group starts.
+fn first_start(s: &[u8]) -> Option<usize>
+    ensures { result ≡ position (λ b. not (characters.parts b)) s.now }
 {
-    let mut i = at;
-    while i < s.len() {
-        if parts(s[i]) {
-            i += 1;
-        } else {
-            return i;
-        }
-    }
-    i
+    s.iter().position(|&b| !parts(b))
 }
 
-// Where the group that starts here ends.
-fn run(s: &[u8], start: usize) -> usize
-    requires { start ≤ length s.now }
-    ensures { Ended s.now start result }
+// Where the first character stands that parts groups.
+fn first_blank(s: &[u8]) -> Option<usize>
+    ensures { result ≡ position characters.parts s.now }
 {
-    let mut i = start;
-    while i < s.len() {
-        if parts(s[i]) {
-            return i;
-        }
-        i += 1;
-    }
-    i
+    s.iter().position(|&b| parts(b))
 }
 
 impl Cursor {
@@ -175,33 +133,23 @@ impl Cursor {
         Cursor { at: 0 }
     }
 
-    // The next group's bounds, and the cursor after it.
-    pub fn step(self, s: &[u8]) -> Step
+    // Where the next group stands, if there is one. The cursor after it is at its end.
+    pub fn step(self, s: &[u8]) -> Option<Span>
         ensures { Stepped s.now self.at result }
     {
-        let at = self.at;
-        if s.len() <= at {
-            return Step::End;
-        }
-        let start = skip(s, at);
-        if s.len() <= start {
-            return Step::End;
-        }
-        let end = run(s, start);
-        Step::Group {
-            start,
-            end,
-            next: Cursor { at: end },
-        }
+        let rest = s.get(self.at..)?;
+        let skipped = first_start(rest)?;
+        let start = self.at + skipped;
+        let group = &s[start..];
+        let end = start + first_blank(group).unwrap_or(group.len());
+        Some(Span { start, end })
     }
 
     // The next group's kind, and the cursor after it.
-    pub fn take(self, s: &[u8]) -> Token
+    pub fn take(self, s: &[u8]) -> Option<(Group, Cursor)>
         ensures { Taken s.now self.at result }
     {
-        match self.step(s) {
-            Step::End => Token::End,
-            Step::Group { start, end, next } => Token::Group(kind_of(&s[start..end]), next),
-        }
+        let Span { start, end } = self.step(s)?;
+        Some((kind_of(&s[start..end]), Cursor { at: end }))
     }
 }
