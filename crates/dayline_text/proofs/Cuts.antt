@@ -1,22 +1,36 @@
--- The first place of a byte.
+-- The first place of a byte: what a search for it answers.
 -- Assumes nothing.
-use mathlib.Core.Path.{◌≡◌, ap}
-use mathlib.Core.List.{List, [], ◌∷◌}
-use Prim.Native.Nat.{ℕ, zero, suc, ◌<◌, ◌≤◌}
+use mathlib.Core.Path.{◌≡◌, refl, sym, ◌∙◌, ap}
+use mathlib.Core.Bool.{cond, not}
+use mathlib.Core.List.{List}
+use Prim.Native.Nat.{ℕ, ◌<◌, ◌≤◌}
 use native.Mathlib.Omega.{arith}
-use borrow.Author.Tests.{eq-eqb, ne_eqb}
-use lib.ListN.{length, get_or}
-use Rattle.text_bytes.specs.Reached.{Reached}
-use Rattle.dayline_text.specs.Cuts.{index, Found}
+use borrow.Author.Tests.{ltb-true, ltb-false}
+use lib.ListN.{length}
+use Rattle.std.specs.Prelude.{◌==◌, nat_lt, Some, None}
+use Rattle.std.specs.List.{position, position_or_len}
+use Rattle.std.proofs.lemmas.List.Recursion.{is_position_or_len}
+use Rattle.std.proofs.lemmas.Option.{cond_some, none-some}
+use Rattle.std.proofs.lemmas.List.Sums.{prefix_len-le-length}
+use Rattle.laws.proofs.Bools.{Known, is_true, is_false, known, cond_true}
+use Rattle.dayline_text.specs.Cuts.{index}
 
--- a place before which b does not stand, and where it stands unless the text ends there
-first : (b : ℕ) (s : List ℕ) (i : ℕ) → i ≤ length s → ((k : ℕ) → k < i → get_or s k 0 ≡ b → ⊥) → (i < length s → get_or s i 0 ≡ b) → i ≡ index b s
+index_is : (b : ℕ) (s : List ℕ) → index b s ≡ position_or_len (λ x. x == b) s
 unfolding index
-first b [] i l n h = omega arith
-first b (x ∷ s) zero l n h = rw (eq-eqb x b (h (omega arith)))
-first b (x ∷ s) (suc i) l n h =
-    rw (ne_eqb x b (n 0 (omega arith)))
-    (ap suc (first b s i (omega arith) (λ k m e. n (suc k) (omega arith) e) (λ m. h (omega arith))))
+index_is b s = is_position_or_len (index b) (λ x. x == b) refl (λ x xs. ap (λ (k : ℕ). cond (x == b) 0 k) (omega arith)) s
 
-pub found : {b : ℕ} {s : List ℕ} {i : ℕ} → Reached s b 0 i → Found b s i
-found {b} {s} {i} v = record { place = first b s i v.upto (λ k l e. v.none k l (omega arith) e) v.here; within = v.upto }
+module _ (b : ℕ) (s : List ℕ) where
+  pub index_upto : index b s ≤ length s
+  index_upto = omega (arith, index_is b s, prefix_len-le-length (λ x. not (x == b)) s)
+
+  pub found : {k : ℕ} → position (λ x. x == b) s ≡ Some k → (k < length s) × (index b s ≡ k)
+  found {k} e =
+      let h = cond_some (nat_lt (position_or_len (λ x. x == b) s) (length s)) (position_or_len (λ x. x == b) s) k e in
+      (omega (arith, h.1, ltb-true (position_or_len (λ x. x == b) s) (length s) h.0), index_is b s ∙ h.1)
+
+  pub not_found : position (λ x. x == b) s ≡ None → index b s ≡ length s
+  not_found e = go (known (nat_lt (position_or_len (λ x. x == b) s) (length s)))
+    where
+      go : Known (nat_lt (position_or_len (λ x. x == b) s) (length s)) → index b s ≡ length s
+      go (is_true t) = absurd (none-some _ (sym e ∙ cond_true _ _ _ t))
+      go (is_false f) = omega (arith, index_upto, index_is b s, ltb-false (position_or_len (λ x. x == b) s) (length s) f)

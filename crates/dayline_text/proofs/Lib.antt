@@ -1,6 +1,5 @@
 -- Laws of the places where the input is cut, and of the first line.
 pub mod Cuts
-mod Lines
-mod Opening
+pub mod Lines
 mod Examples
-pub mod Parts
+pub mod Opening

@@ -1,4 +1,4 @@
--- The first line: the end of a number, one byte more, a piece more, and what the whole line opens.
+-- The first line: the end of a number, one byte more, a piece more.
 -- Assumes nothing.
 use mathlib.Core.Path.{◌≡◌, refl, sym, ◌∙◌, ap, ap₂}
 use mathlib.Core.Bool.{Bool, true, false, ◌&&◌}
@@ -6,16 +6,19 @@ use mathlib.Core.List.{List, [], ◌∷◌, ◌++◌, append_assoc}
 use Prim.Native.Nat.{ℕ, ◌+◌, ◌<◌, ◌≤◌}
 use native.Mathlib.Numerals.{add-one}
 use native.Mathlib.Omega.{arith}
-use borrow.Author.Tests.{le-leb, lt-leb}
+use borrow.Author.Tests.{lt-leb}
 use lib.Dec.{leb}
-use lib.ListN.{length, take, drop, set, get_or, length-append, drop_of_length-le}
-use lib.Seq.{take_all, take-suc-set, drop-cons}
+use lib.ListN.{length, drop, get_or, length-append, drop_of_length-le}
+use lib.Seq.{drop-cons}
+use Rattle.std.specs.Prelude.{Option, None, Some, unwrap_or, Result, Ok, Err, OnOk, OnErr}
+use Rattle.std.specs.Result.{is_ok}
+use Rattle.arrayvec.specs.ArrayVec.{ArrayVec}
 use Rattle.laws.proofs.Bools.{and_false_left, and_false_right}
 use Rattle.synop_text.specs.Characters.{is_digit}
 use Rattle.dayline_text.specs.Cuts.{is_blank}
 use Rattle.dayline_text.specs.declared.first_line.Line.{Line}
 use Rattle.dayline_text.specs.FirstLine.{cannot_open, first, first_line, is_whole, is_plain, closed, grown, numbers_from}
-use Rattle.dayline_text.specs.Line.{is_good, with, goes, Ended}
+use Rattle.dayline_text.specs.Line.{with, goes, Ended}
 
 -- ---- lines that cannot open a store
 first_not : (ns : List ℕ) → first false ns ≡ cannot_open
@@ -29,57 +32,62 @@ first_many p ns h = rw (and_false_right p (is_whole (length ns)) (and_false_left
 -- ---- the end of a number
 module _ (l : Line) where
   -- none is under way
-  pub end_none : l.within ≡ false → Ended l (record { numbers = l.numbers; count = l.count; number = 0; within = false; good = l.good })
-  end_none e = record { none = refl; zero = refl; same = λ plain rest. rw e }
+  pub end_none : l.number ≡ None → Ended l l
+  end_none e = record { none = e; same = λ plain rest. rw e }
 
-  -- a number too many
-  pub end_over : l.within ≡ true → 67 ≤ l.count → length l.numbers ≡ 67
-      → Ended l (record { numbers = l.numbers; count = l.count; number = 0; within = false; good = false })
-  end_over e h w =
-      record {
-        none = refl;
-        zero = refl;
-        same = λ plain rest.
-            first_not _
-            ∙ sym (ap (λ (b : Bool). with l plain (closed b l.number rest)) e ∙ first_many _ _ (many rest));
-      }
-    where
-      many : (rest : List ℕ) → 67 < length (take l.count l.numbers ++ l.number ∷ rest)
-      many rest =
-          let t : take l.count l.numbers ≡ l.numbers = take_all l.count l.numbers (omega arith) in
-          rw t (omega (arith, length-append l.numbers (l.number ∷ rest)))
+  module _ (n : ℕ) (e : l.number ≡ Some n) where
+    -- a number too many
+    end_over : 67 ≤ length l.numbers.items → (v : ArrayVec ℕ) → Ended l (record { numbers = v; number = None; good = l.good && false })
+    end_over h v =
+        record {
+          none = refl;
+          same = λ plain rest.
+              ap (λ (b : Bool). first (b && plain) (v.items ++ rest)) (and_false_right l.good false refl) ∙ first_not _
+              ∙ sym (ap (λ (o : Option ℕ). with l plain (closed o rest)) e ∙ first_many _ _ (many rest));
+        }
+      where
+        many : (rest : List ℕ) → 67 < length (l.numbers.items ++ n ∷ rest)
+        many rest = omega (arith, length-append l.numbers.items (n ∷ rest))
 
-  -- one number more
-  pub end_more : l.within ≡ true → l.count < 67 → length l.numbers ≡ 67
-      → Ended l (record { numbers = set l.numbers l.count l.number; count = l.count + 1; number = 0; within = false; good = l.good })
-  end_more e h w =
-      record {
-        none = refl;
-        zero = refl;
-        same = λ plain rest.
-            ap₂ (λ (b : Bool) (ns : List ℕ). first ((l.good && b) && plain) (ns ++ rest))
-            (le-leb (l.count + 1) 67 (omega arith) ∙ sym (le-leb l.count 67 (omega arith)))
-            (ap (λ (k : ℕ). take k (set l.numbers l.count l.number)) (add-one l.count)
-            ∙ take-suc-set l.numbers l.count l.number (omega arith))
-            ∙ ap (first (is_good l && plain)) (append_assoc (take l.count l.numbers) (l.number ∷ []) rest)
-            ∙ sym (ap (λ (b : Bool). with l plain (closed b l.number rest)) e);
-      }
+    -- one number more
+    end_more : (v : ArrayVec ℕ) → v.items ≡ l.numbers.items ++ n ∷ [] → Ended l (record { numbers = v; number = None; good = l.good && true })
+    end_more v q =
+        record {
+          none = refl;
+          same = λ plain rest.
+              ap₂ (λ (b : Bool) (ns : List ℕ). first (b && plain) (ns ++ rest)) (kept l.good) q
+              ∙ ap (first (l.good && plain)) (append_assoc l.numbers.items (n ∷ []) rest)
+              ∙ sym (ap (λ (o : Option ℕ). with l plain (closed o rest)) e);
+        }
+      where
+        kept : (b : Bool) → (b && true) ≡ b
+        kept true = refl
+        kept false = refl
+
+    -- what the list answers where it is given the number
+    pub end_pushed : {E : Type 0} (r : Result Unit E) (b : Bool) (v : ArrayVec ℕ) → b ≡ is_ok r → OnOk r (v.items ≡ l.numbers.items ++ n ∷ [])
+        → OnErr r (length l.numbers.items ≡ 67) → Ended l (record { numbers = v; number = None; good = l.good && b })
+    end_pushed (Ok x) b v q o f = rw q (end_more v o)
+    end_pushed (Err x) b v q o f = rw q (end_over (omega arith) v)
 
 -- ---- one byte more
 module _ (l : Line) (b : ℕ) (s : List ℕ) where
   pub digit_more : is_digit b ≡ true
-      → goes (record { numbers = l.numbers; count = l.count; number = grown l.number b; within = true; good = l.good }) s ≡ goes l (b ∷ s)
+      → goes (record { numbers = l.numbers; number = Some (grown (unwrap_or l.number 0) b); good = l.good }) s ≡ goes l (b ∷ s)
   unfolding goes is_plain numbers_from
   digit_more e = rw e
 
   -- no digit: a number that was under way ends
-  pub blank_more : (r : Line) → Ended l r → is_digit b ≡ false → is_blank b ≡ true → goes r s ≡ goes l (b ∷ s)
+  pub other_more : (r : Line) → Ended l r → is_digit b ≡ false
+      → goes (record { numbers = r.numbers; number = r.number; good = r.good && is_blank b }) s ≡ goes l (b ∷ s)
   unfolding goes is_plain numbers_from
-  blank_more r v e f = rw (e, f, v.none, v.zero) (v.same (is_plain s) (numbers_from false 0 s))
-
-  pub other_more : (r : Line) → r.good ≡ false → is_digit b ≡ false → is_blank b ≡ false → goes r s ≡ goes l (b ∷ s)
-  unfolding goes is_plain numbers_from
-  other_more r g e f = rw (g, e, f, and_false_right (is_good l) false refl) (first_not _ ∙ sym (first_not _))
+  other_more r v e =
+      rw (e, v.none) (ap (λ (p : Bool). first p (r.numbers.items ++ numbers_from None s)) (joined r.good (is_blank b) (is_plain s))
+      ∙ v.same (is_blank b && is_plain s) (numbers_from None s))
+    where
+      joined : (x y z : Bool) → ((x && y) && z) ≡ (x && (y && z))
+      joined true y z = refl
+      joined false y z = refl
 
 -- ---- a piece more: of the line l that goes on with s the first i bytes are read
 pub record Reading (l : Line) (s : List ℕ) (r : Line) (i : ℕ) : Type 0 where
@@ -102,6 +110,6 @@ pub read_all : {l : Line} {s : List ℕ} {r : Line} {i : ℕ} → Reading l s r 
 read_all {l} {s} {r} {i} v h t = ap (λ (x : List ℕ). goes r (x ++ t)) (sym (drop_of_length-le s h)) ∙ v.same t
 
 -- ---- nothing read
-pub reading_start : (ns : List ℕ) (s : List ℕ) → goes (record { numbers = ns; count = 0; number = 0; within = false; good = true }) s ≡ first_line s
+pub new_line : (l : Line) → l.numbers.items ≡ [] → l.number ≡ None → l.good ≡ true → (s : List ℕ) → goes l s ≡ first_line s
 unfolding goes
-reading_start ns s = refl
+new_line l e f g s = rw (e, f, g)

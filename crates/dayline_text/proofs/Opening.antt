@@ -1,112 +1,115 @@
--- What a whole line opens, out of the numbers that the code has.
+-- What a whole line's numbers open: the date, and the pairs one after the other.
 -- Assumes nothing.
-use mathlib.Core.Path.{◌≡◌, refl, sym, ◌∙◌, ap}
-use mathlib.Core.Bool.{Bool, true, false, ◌&&◌, cond}
-use mathlib.Core.List.{List, [], ◌∷◌, append-nil}
-use Prim.Native.Nat.{ℕ, zero, suc, ◌+◌, ◌*◌, ◌%◌, ◌<◌, ◌≤◌, min}
+use mathlib.Core.Path.{◌≡◌, refl, sym, ◌∙◌, ap, ap₂, subst}
+use mathlib.Core.Bool.{Bool, true, false, ◌&&◌}
+use mathlib.Core.List.{List, [], ◌∷◌, ◌++◌, append-nil}
+use Prim.Native.Nat.{ℕ, zero, suc, ◌+◌, ◌-◌, ◌*◌, ◌/◌, ◌%◌, ◌<◌, ◌≤◌, min}
 use native.Mathlib.Nat.{le_of_suc-le-suc, not-suc-le-zero}
+use native.Mathlib.Numerals.{add-one}
 use native.Mathlib.Omega.{arith}
-use borrow.Author.Tests.{le-leb, leb-true, eq-eqb, ne_eqb}
+use borrow.Author.Tests.{leb-true}
 use lib.Dec.{leb, eqb}
-use lib.ListN.{length, take, get_or}
-use lib.Seq.{length-take-le, get_or-take}
+use lib.ListN.{length, take, drop, get_or, length-drop}
+use lib.Seq.{get_or-take, take_all}
+use Rattle.std.proofs.lemmas.List.{get_or-drop}
+use Rattle.std.specs.Prelude.{Option, None, IfSome}
+use Rattle.std.specs.Simd.{first_chunks}
+use Rattle.arrayvec.specs.ArrayVec.{array_vec_len}
 use Rattle.laws.specs.Table.{table}
-use Rattle.laws.proofs.Bools.{Known, is_true, is_false, known, cond_true, cond_false, and_left, and_right, and_false_left, and_false_right}
-use Rattle.laws.proofs.Tables.{table_ext}
+use Rattle.laws.proofs.Bools.{and_left, and_right}
+use Rattle.laws.proofs.Tables.{length_table}
 use Rattle.dayline_text.specs.declared.first_line.Line.{Line}
-use Rattle.dayline_text.specs.FirstLine.{cannot_open, opens, opened, first, is_whole, pairs, station, row, is_plain, numbers_from}
-use Rattle.dayline_text.specs.Line.{is_good, with, goes, Ended, Opens}
+use Rattle.dayline_text.specs.declared.first_line.Opening.{Opening}
+use Rattle.dayline_text.specs.FirstLine.{cannot_open, opens, first, is_whole, pairs, station, row, is_plain, numbers_from}
+use Rattle.dayline_text.specs.Line.{goes, Ended, told, Opens}
+
+-- ---- the pairs, cut out of a list
+pub chunk_at : (m : ℕ) (xs : List ℕ) (k i : ℕ) → k < m → i < 2 → get_or (get_or (first_chunks 2 m xs) k []) i 0 ≡ get_or xs (2 * k + i) 0
+chunk_at zero xs k i h b = absurd (not-suc-le-zero h)
+chunk_at (suc m) xs zero i h b = get_or-take 2 xs i 0 b ∙ ap (λ (j : ℕ). get_or xs j 0) (omega arith)
+chunk_at (suc m) xs (suc k) i h b =
+    chunk_at m (drop 2 xs) k i (le_of_suc-le-suc h) b ∙ get_or-drop 2 xs (2 * k + i) 0
+    ∙ ap (λ (j : ℕ). get_or xs j 0) (omega arith)
 
 -- ---- the first entries of a table
-take_table : (n m : ℕ) (f : ℕ → ℕ) → n ≤ m → take n (table m f) ≡ table n f
+last : (n : ℕ) (f : ℕ → ℕ) → table (suc n) f ≡ table n f ++ f n ∷ []
 unfolding table
-take_table zero m f h = refl
-take_table (suc n) zero f h = absurd (not-suc-le-zero h)
-take_table (suc n) (suc m) f h = ap (λ (xs : List ℕ). f zero ∷ xs) (take_table n m (λ k. f (suc k)) (le_of_suc-le-suc h))
+last zero f = refl
+last (suc n) f = ap (λ (xs : List ℕ). f zero ∷ xs) (last n (λ k. f (suc k)))
 
-entries : (n m : ℕ) (f g : ℕ → ℕ) → n ≤ m → ((k : ℕ) → k < n → f k ≡ g k) → take n (table m f) ≡ table n g
-entries n m f g h e = take_table n m f h ∙ table_ext n f g e
+table_more : (n : ℕ) (f : ℕ → ℕ) → table (n + 1) f ≡ table n f ++ f n ∷ []
+table_more n f = ap (λ (k : ℕ). table k f) (add-one n) ∙ last n f
 
--- ---- the numbers in the list of 67, of which the first n are the line's
-module _ (n : ℕ) (xs : List ℕ) (few : 5 ≤ n) (many : n ≤ 67) (full : length xs ≡ 67) where
-  sized : length (take n xs) ≡ n
-  sized = length-take-le n xs (omega arith)
+-- ---- the first i pairs of the numbers ns are told apart
+pub record Pairing (ns ss rs : List ℕ) (i : ℕ) : Type 0 where
+  pub stations : ss ≡ table i (station ns)
+  pub rows : rs ≡ table i (row ns)
 
-  at : (i : ℕ) → i < n → get_or xs i 0 ≡ get_or (take n xs) i 0
-  at i h = sym (get_or-take n xs i 0 h)
+pub pairing_none : (ns : List ℕ) → Pairing ns [] [] 0
+unfolding table
+pairing_none ns = record { stations = refl; rows = refl }
 
-  listed : opens (get_or xs 0 0) (get_or xs 1 0) (get_or xs 2 0) (take (pairs n) (table 32 (station xs))) (take (pairs n) (table 32 (row xs))) ≡ opened (take n xs)
-  listed =
-      rw (
-        sized,
-        at 0 (omega arith),
-        at 1 (omega arith),
-        at 2 (omega arith),
-        entries (pairs n) 32 (station xs) (station (take n xs)) (omega arith) (λ k h. at (2 * k + 3) (omega arith)),
-        entries (pairs n) 32 (row xs) (row (take n xs)) (omega arith) (λ k h. ap (λ (x : ℕ). min x 65535) (at (2 * k + 4) (omega arith))),
-      )
+-- the numbers behind the date, as they are lent, and the pairs ps cut out of them
+abbrev pub behind : List ℕ → List ℕ
+behind ns = take (length ns - 3) (drop 3 ns)
 
--- ---- lines that open a store, and lines that cannot
-first_yes : (p : Bool) (ns : List ℕ) → p ≡ true → is_whole (length ns) ≡ true → first p ns ≡ opened ns
+behind_all : (ns : List ℕ) → behind ns ≡ drop 3 ns
+behind_all ns = take_all (length ns - 3) (drop 3 ns) (omega (arith, length-drop 3 ns))
+
+module _ (ns : List ℕ) {ps : List (List ℕ)} (front : ps ≡ first_chunks 2 (length (behind ns) / 2) (behind ns)) (long : length ps ≡ length (behind ns) / 2) where
+  -- the i-th pair's parts
+  at : (i j : ℕ) → i < length ps → j < 2 → get_or (get_or ps i []) j 0 ≡ get_or ns (2 * i + (3 + j)) 0
+  at i j h b =
+      ap (λ (qs : List (List ℕ)). get_or (get_or qs i []) j 0) front
+      ∙ chunk_at (length (behind ns) / 2) (behind ns) i j (subst (λ (m : ℕ). i < m) long h) b
+      ∙ ap (λ (xs : List ℕ). get_or xs (2 * i + j) 0) (behind_all ns)
+      ∙ get_or-drop 3 ns (2 * i + j) 0
+      ∙ ap (λ (k : ℕ). get_or ns k 0) (omega arith)
+
+  -- one pair more
+  pub pairing_more : {ss rs ss' rs' : List ℕ} {i r : ℕ} → Pairing ns ss rs i → i < length ps → ss' ≡ ss ++ get_or (get_or ps i []) 0 0 ∷ []
+      → rs' ≡ rs ++ r ∷ [] → r ≡ min (get_or (get_or ps i []) 1 0) 65535 → Pairing ns ss' rs' (i + 1)
+  pairing_more {i = i} v h e f g =
+      record {
+        stations = e ∙ ap₂ (λ (xs : List ℕ) (x : ℕ). xs ++ x ∷ []) v.stations (at i 0 h (omega arith)) ∙ sym (table_more i (station ns));
+        rows =
+            f ∙ ap₂ (λ (xs : List ℕ) (x : ℕ). xs ++ x ∷ []) v.rows (g ∙ ap (λ (x : ℕ). min x 65535) (at i 1 h (omega arith)))
+            ∙ sym (table_more i (row ns));
+      }
+
+-- so many are told apart as there are
+pub pairing_long : {ns ss rs : List ℕ} {i : ℕ} → Pairing ns ss rs i → (length ss ≡ i) × (length rs ≡ i)
+pairing_long {ns} {i = i} v = (ap length v.stations ∙ length_table i (station ns), ap length v.rows ∙ length_table i (row ns))
+
+pub first_no : (ns : List ℕ) → is_whole (length ns) ≡ false → cannot_open ≡ first true ns
 unfolding first
-first_yes p ns e f = rw (e, f)
+first_no ns e = rw e refl
 
-first_no : (p : Bool) (ns : List ℕ) → (p && is_whole (length ns)) ≡ false → first p ns ≡ cannot_open
+pub first_yes : {ns ss rs : List ℕ} {i : ℕ} → is_whole (length ns) ≡ true → Pairing ns ss rs i → i ≡ pairs (length ns)
+    → opens (get_or ns 0 0) (get_or ns 1 0) (get_or ns 2 0) ss rs ≡ first true ns
 unfolding first
-first_no p ns e = rw e
+first_yes e v q = rw (e, v.stations, v.rows, q) refl
 
--- three numbers and 1 to 32 pairs are 5 to 67
-pub bounds : (g : Bool) (n : ℕ) → (g && is_whole n) ≡ true → (5 ≤ n) × (n ≤ 67)
-bounds g n h = (leb-true 5 n (and_left (leb 5 n) (leb n 67) e), leb-true n 67 (and_right (leb 5 n) (leb n 67) e))
-  where
-    e : (leb 5 n && leb n 67) ≡ true
-    e = and_left (leb 5 n && leb n 67) (eqb (n % 2) 1) (and_right g (is_whole n) h)
+-- a whole line's pairs
+pub pairs_count : (ns : List ℕ) {m : ℕ} → is_whole (length ns) ≡ true → m ≡ length (behind ns) / 2 → (m ≡ pairs (length ns)) × (m ≤ 32)
+pairs_count ns {m} e q =
+    let many : length ns ≤ 67 = leb-true (length ns) 67 (and_right (leb 5 (length ns)) (leb (length ns) 67) (and_left (leb 5 (length ns) && leb (length ns) 67) (eqb (length ns % 2) 1) e)) in
+    let long : length (behind ns) ≡ length ns - 3 = ap length (behind_all ns) ∙ length-drop 3 ns in
+    (q ∙ ap (λ (k : ℕ). k / 2) long, omega (arith, q, long))
 
--- w is the line with its last number whole
-module _ (l w : Line) (v : Ended l w) (full : length w.numbers ≡ 67) where
-  whole : with w true [] ≡ goes l []
+-- ---- w is the line l with its last number whole
+module _ (l w : Line) (v : Ended l w) where
+  whole : (good : Bool) → w.good ≡ good → first good w.numbers.items ≡ goes l []
   unfolding goes is_plain numbers_from
-  whole = v.same true []
-
-  -- the line's numbers
-  numbers : with w true [] ≡ first (is_good w && true) (take w.count w.numbers)
-  numbers = ap (first (is_good w && true)) (append-nil (take w.count w.numbers))
-
-  sized_all : w.count ≤ 67 → is_whole (length (take w.count w.numbers)) ≡ is_whole w.count
-  sized_all h = ap is_whole (length-take-le w.count w.numbers (omega arith))
-
-  opens_all : (w.good && is_whole w.count) ≡ true → w.count ≤ 67 → opened (take w.count w.numbers) ≡ goes l []
-  opens_all h m =
-      sym (first_yes (is_good w && true) (take w.count w.numbers)
-      (rw (and_left w.good (is_whole w.count) h, le-leb w.count 67 m))
-      (sized_all m ∙ and_right w.good (is_whole w.count) h))
-      ∙ sym numbers ∙ whole
-
-  opens_none : (w.good && is_whole w.count) ≡ false → Known (leb w.count 67) → cannot_open ≡ goes l []
-  opens_none h k = sym (first_no _ _ (not_whole k)) ∙ sym numbers ∙ whole
+  whole good e = ap₂ first (sym (kept w.good ∙ e)) (sym (append-nil w.numbers.items)) ∙ v.same true []
     where
-      both : (g m f : Bool) → m ≡ true → (g && f) ≡ false → (((g && m) && true) && f) ≡ false
-      both true m f e h = rw e h
-      both false m f e h = refl
+      kept : (b : Bool) → (b && true) ≡ b
+      kept true = refl
+      kept false = refl
 
-      not_whole : Known (leb w.count 67) → ((is_good w && true) && is_whole (length (take w.count w.numbers))) ≡ false
-      not_whole (is_false m) = and_false_left _ _ (and_false_left _ _ (and_false_right w.good _ m))
-      not_whole (is_true m) = rw (sized_all (leb-true w.count 67 m)) (both w.good (leb w.count 67) (is_whole w.count) m h)
+  pub opens_none : w.good ≡ false → Opens l None
+  unfolding first
+  opens_none e = record { says = whole false e; few = tt }
 
-  pub opening : (n : ℕ) (ss rs : List ℕ) → ss ≡ table 32 (station w.numbers) → rs ≡ table 32 (row w.numbers)
-      → n ≡ cond (w.good && is_whole w.count) (pairs w.count) 0
-      → Opens l (record { count = n; year = get_or w.numbers 0 0; month = get_or w.numbers 1 0; day = get_or w.numbers 2 0; stations = ss; rows = rs })
-  opening n ss rs p q e = go (known (w.good && is_whole w.count))
-    where
-      go : Known (w.good && is_whole w.count)
-          → Opens l (record { count = n; year = get_or w.numbers 0 0; month = get_or w.numbers 1 0; day = get_or w.numbers 2 0; stations = ss; rows = rs })
-      go (is_true h) =
-          let b = bounds w.good w.count h in
-          let m : n ≡ pairs w.count = e ∙ cond_true _ _ _ h in
-          record {
-            says = cond_false _ _ _ (ne_eqb n 0 (λ z. omega arith)) ∙ rw (m, p, q) (listed w.count w.numbers b.0 b.1 full) ∙ opens_all h b.1;
-            few = omega arith;
-          }
-      go (is_false h) =
-          let m : n ≡ 0 = e ∙ cond_false _ _ _ h in
-          record { says = cond_true _ _ _ (eq-eqb n 0 m) ∙ opens_none h (known (leb w.count 67)); few = omega arith }
+  pub opens_all : (o : Option Opening) → w.good ≡ true → told o ≡ first true w.numbers.items → IfSome o (λ p. array_vec_len p.stations ≤ 32) → Opens l o
+  opens_all o e h f = record { says = h ∙ whole true e; few = f }

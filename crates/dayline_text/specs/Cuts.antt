@@ -1,5 +1,5 @@
 -- The places where `dayline`'s input is cut, and blanks. Assumes nothing.
-use Rattle.std.specs.Prelude.{ℕ, zero, suc, ◌≤◌, Bool, ◌||◌, cond, List, [], ◌∷◌, ◌≡◌, eqb, length}
+use Rattle.std.specs.Prelude.{ℕ, zero, suc, Bool, ◌||◌, cond, List, [], ◌∷◌, eqb}
 
 -- a space, CR or LF
 abbrev pub is_blank : ℕ → Bool
@@ -9,8 +9,3 @@ is_blank b = (eqb b 32 || eqb b 13) || eqb b 10
 unfoldable pub index : ℕ → List ℕ → ℕ
 index b [] = zero
 index b (x ∷ s) = cond (eqb x b) zero (suc (index b s))
-
--- that place, of which a part of the text can be taken
-pub record Found (b : ℕ) (s : List ℕ) (r : ℕ) : Type 0 where
-  pub place : r ≡ index b s
-  pub within : r ≤ length s

@@ -1,5 +1,5 @@
 -- The first line of `dayline`'s input: "a line of year, month, day, then station and row pairs". Assumes nothing.
-use Rattle.std.specs.Prelude.{ℕ, ◌+◌, ◌*◌, ◌-◌, ◌/◌, ◌%◌, min, Bool, true, false, ◌&&◌, ◌||◌, cond, List, [], ◌∷◌, eqb, leb, length, get_or}
+use Rattle.std.specs.Prelude.{ℕ, ◌+◌, ◌*◌, ◌-◌, ◌/◌, ◌%◌, min, Bool, true, ◌&&◌, ◌||◌, cond, List, [], ◌∷◌, eqb, leb, length, get_or, Option, None, Some, unwrap_or}
 use Rattle.laws.specs.Table.{table}
 use Rattle.synop_text.specs.Characters.{is_digit}
 use Rattle.dayline_text.specs.Cuts.{is_blank}
@@ -14,16 +14,17 @@ abbrev pub grown : ℕ → ℕ → ℕ
 grown n digit = min (10 * n + (digit - 48)) 999999999
 
 -- the end of a number, where one is under way
-abbrev pub closed : Bool → ℕ → List ℕ → List ℕ
-closed within n rest = cond within (n ∷ rest) rest
+abbrev pub closed : Option ℕ → List ℕ → List ℕ
+closed None rest = rest
+closed (Some n) rest = n ∷ rest
 
--- the numbers of a text, its runs of digits; n is the number under way, if it is within one
-unfoldable pub numbers_from : Bool → ℕ → List ℕ → List ℕ
-numbers_from within n [] = closed within n []
-numbers_from within n (b ∷ s) = cond (is_digit b) (numbers_from true (grown n b) s) (closed within n (numbers_from false 0 s))
+-- the numbers of a text, its runs of digits, where a number is under way or none
+unfoldable pub numbers_from : Option ℕ → List ℕ → List ℕ
+numbers_from number [] = closed number []
+numbers_from number (b ∷ s) = cond (is_digit b) (numbers_from (Some (grown (unwrap_or number 0) b)) s) (closed number (numbers_from None s))
 
 abbrev pub numbers : List ℕ → List ℕ
-numbers s = numbers_from false 0 s
+numbers s = numbers_from None s
 
 -- what a line opens: year, month, day, the stations and their rows
 pub data First : Type 0 where

@@ -1,32 +1,29 @@
 -- What the code's line and its opening stand for. Assumes nothing.
-use Rattle.std.specs.Prelude.{ℕ, ◌≤◌, Bool, false, ◌&&◌, cond, List, [], ◌++◌, ◌≡◌, eqb, leb, take}
+use Rattle.std.specs.Prelude.{ℕ, Bool, ◌&&◌, List, [], ◌++◌, ◌≡◌, ◌≤◌, Option, None, Some, IfSome}
+use Rattle.arrayvec.specs.ArrayVec.{array_vec_len}
 use Rattle.dayline_text.specs.declared.first_line.Line.{Line}
 use Rattle.dayline_text.specs.declared.first_line.Opening.{Opening}
 use Rattle.dayline_text.specs.FirstLine.{First, cannot_open, opens, first, closed, is_plain, numbers_from}
 
--- no byte and no number too many has spoilt it
-abbrev pub is_good : Line → Bool
-is_good l = l.good && leb l.count 67
-
--- what a line opens with these numbers more, where the rest of it is plain or not
+-- what a line opens with these numbers more, where the rest of it is plain or not; no byte and no number too many has spoilt it so far, if it is good
 abbrev pub with : Line → Bool → List ℕ → First
-with l plain rest = first (is_good l && plain) (take l.count l.numbers ++ rest)
+with l plain rest = first (l.good && plain) (l.numbers.items ++ rest)
 
 -- what a line opens that goes on with the bytes s
 unfoldable pub goes : Line → List ℕ → First
-goes l s = with l (is_plain s) (numbers_from l.within l.number s)
+goes l s = with l (is_plain s) (numbers_from l.number s)
 
 -- the number that was under way in the line l is whole
 pub record Ended (l r : Line) : Type 0 where
-  pub none : r.within ≡ false
-  pub zero : r.number ≡ 0
-  pub same : (plain : Bool) (rest : List ℕ) → with r plain rest ≡ with l plain (closed l.within l.number rest)
+  pub none : r.number ≡ None
+  pub same : (plain : Bool) (rest : List ℕ) → with r plain rest ≡ with l plain (closed l.number rest)
 
 -- what the code's answer says
-abbrev pub told : Opening → First
-told o = cond (eqb o.count 0) cannot_open (opens o.year o.month o.day (take o.count o.stations) (take o.count o.rows))
+abbrev pub told : Option Opening → First
+told None = cannot_open
+told (Some o) = opens o.date.year o.date.month o.date.day o.stations.items o.rows.items
 
 -- the line l, which ends here, opens what the answer o says
-pub record Opens (l : Line) (o : Opening) : Type 0 where
+pub record Opens (l : Line) (o : Option Opening) : Type 0 where
   pub says : told o ≡ goes l []
-  pub few : o.count ≤ 32
+  pub few : IfSome o (λ p. array_vec_len p.stations ≤ 32)

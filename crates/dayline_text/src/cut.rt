@@ -5,5 +5,5 @@ ghost use Rattle.dayline_text.specs.Cuts as cuts;
 pub fn is_blank(b: u8) -> bool
     ensures { result ≡ cuts.is_blank b }
 {
-    (b == b' ') | (b == b'\r') | (b == b'\n')
+    matches!(b, b' ' | b'\r' | b'\n')
 }

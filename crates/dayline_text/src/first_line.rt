@@ -1,45 +1,29 @@
 // The first line, read a byte at a time, so that it may be of any length: numbers parted by blanks. Year, month and day come first,
 // then a number and a climate row for each station.
-ghost use Rattle.std.specs.Prelude.{◌≡◌, cond, ◌&&◌, List, [], ◌∷◌, ◌++◌, ℕ, ◌≤◌, min};
-ghost use Rattle.laws.specs.Table.{table};
+ghost use Rattle.std.specs.Prelude.{◌≡◌, List, ◌∷◌, ◌++◌, ℕ, ◌≤◌, min, true, IfSome};
+ghost use Rattle.arrayvec.specs.ArrayVec.{array_vec_len};
 ghost use Rattle.dayline_text.specs.FirstLine as first;
-ghost use Rattle.dayline_text.specs.Line.{goes, Ended, Opens};
+ghost use Rattle.dayline_text.specs.Line.{goes, Ended, Opens, told};
 
 use crate::cut::is_blank;
+use arrayvec::ArrayVec;
+use calendar::Date;
+use synop_text::is_digit;
 
-// The line so far: the numbers that are whole and how many they are, the number that is being read, whether there is one, and
-// whether the line may still open a store.
-#[derive(Clone, Copy)]
+// The line so far: the numbers that are whole, the one that is being read, and whether the line may still open a store.
+#[derive(Drop)]
 pub struct Line {
-    pub numbers: [u32; 67],
-    pub count: usize,
-    pub number: u32,
-    pub within: bool,
+    pub numbers: ArrayVec<u32, 67>,
+    pub number: Option<u32>,
     pub good: bool,
 }
 
-// What a whole line opens: a date, and a number and a row for each of the stations. No station: it cannot open a store.
-#[derive(Clone, Copy)]
+// What a whole line opens: a date, and a number and a row for each of the stations. Two lists, since `open` takes two, as from C.
+#[derive(Drop)]
 pub struct Opening {
-    pub count: usize,
-    pub year: u32,
-    pub month: u32,
-    pub day: u32,
-    pub stations: [u32; 32],
-    pub rows: [u16; 32],
-}
-
-// A line of which nothing is read.
-pub fn new() -> Line
-    ensures { (s : List ℕ) → goes result s ≡ first.first_line s }
-{
-    Line {
-        numbers: [0; 67],
-        count: 0,
-        number: 0,
-        within: false,
-        good: true,
-    }
+    pub date: Date,
+    pub stations: ArrayVec<u32, 32>,
+    pub rows: ArrayVec<u16, 32>,
 }
 
 // A number with one more digit.
@@ -47,117 +31,102 @@ fn grown(n: u32, digit: u8) -> u32
     requires { 48 ≤ digit }
     ensures { result ≡ first.grown n digit }
 {
-    let next = 10 * n as u64 + (digit - b'0') as u64;
-    if next < 999999999 {
-        return next as u32;
-    }
-    999999999
+    n.saturating_mul(10)
+        .saturating_add(u32::from(digit - b'0'))
+        .min(999_999_999)
 }
 
-// The end of a number, where one is being read: it goes to the list of numbers. A number too many spoils the line.
-fn end(line: Line) -> Line
-    ensures { Ended line result }
-{
-    let mut next = line;
-    next.number = 0;
-    next.within = false;
-    if !line.within {
-        return next;
+impl Line {
+    // A line of which nothing is read.
+    pub fn new() -> Line
+        ensures { (s : List ℕ) → goes result s ≡ first.first_line s }
+    {
+        Line {
+            numbers: ArrayVec::new(),
+            number: None,
+            good: true,
+        }
     }
-    let k = line.count;
-    if 67 <= k {
-        next.good = false;
-        return next;
-    }
-    next.numbers[k] = line.number;
-    next.count = k + 1;
-    next
-}
 
-// One byte of the line: a digit, a blank, or one that spoils the line.
-fn byte(line: Line, b: u8) -> Line
-    ensures { (s : List ℕ) → goes result s ≡ goes line (b ∷ s) }
-{
-    if synop_text::is_digit(b) {
-        let mut next = line;
-        next.number = grown(line.number, b);
-        next.within = true;
-        return next;
+    // The end of a number, where one is being read: it goes to the list of numbers. A number too many spoils the line.
+    fn end(&mut self)
+        ensures { Ended self.old self.new }
+    {
+        if let Some(n) = self.number {
+            self.number = None;
+            self.good &= self.numbers.try_push(n).is_ok();
+        }
     }
-    let mut next = end(line);
-    if !is_blank(b) {
-        next.good = false;
-    }
-    next
-}
 
-// A piece of the line.
-pub fn piece(line: Line, s: &[u8]) -> Line
-    ensures { (t : List ℕ) → goes result t ≡ goes line (s.now ++ t) }
-{
-    let mut now = line;
-    let mut i = 0;
-    while i < s.len() {
-        now = byte(now, s[i]);
-        i += 1;
+    // One byte of the line: a digit, a blank, or one that spoils the line.
+    fn byte(&mut self, b: u8)
+        ensures { (s : List ℕ) → goes self.new s ≡ goes self.old (b ∷ s) }
+    {
+        if is_digit(b) {
+            self.number = Some(grown(self.number.unwrap_or(0), b));
+            return;
+        }
+        self.end();
+        self.good &= is_blank(b);
     }
-    now
-}
 
-// How many stations so many numbers name, in a line that is good or not.
-fn station_count(good: bool, count: usize) -> usize
-    ensures { result ≡ cond (good && first.is_whole count) (first.pairs count) 0 }
-{
-    if good & ((5 <= count) & (count <= 67) & (count % 2 == 1)) {
-        return (count - 3) / 2;
+    // A piece of the line.
+    pub fn piece(&mut self, s: &[u8])
+        ensures { (t : List ℕ) → goes self.new t ≡ goes self.old (s.now ++ t) }
+    {
+        for &b in s {
+            self.byte(b);
+        }
     }
-    0
-}
 
-// The stations' numbers, out of the line's numbers.
-fn stations(numbers: [u32; 67]) -> [u32; 32]
-    ensures { result ≡ table 32 (first.station numbers) }
-{
-    let mut r = [0; 32];
-    for k in 0..32usize {
-        r[k] = numbers[2 * k + 3];
+    // What the line opens, at its end.
+    pub fn opened(mut self) -> Option<Opening>
+        ensures { Opens self result }
+    {
+        self.end();
+        if !self.good {
+            return None;
+        }
+        pairs_opened(&self.numbers)
     }
-    r
 }
 
 // A number in 16 bits.
 fn narrow(n: u32) -> u16
     ensures { result ≡ min n 65535 }
 {
-    if n < 65535 {
-        return n as u16;
-    }
-    65535
+    u16::try_from(n).unwrap_or(u16::MAX)
 }
 
-// Their rows.
-fn rows(numbers: [u32; 67]) -> [u16; 32]
-    ensures { result ≡ table 32 (first.row numbers) }
+// Whether so many numbers are a date and 1 to 32 pairs.
+fn is_whole(count: usize) -> bool
+    ensures { result ≡ first.is_whole count }
 {
-    let mut r = [0; 32];
-    for k in 0..32usize {
-        r[k] = narrow(numbers[2 * k + 4]);
-    }
-    r
+    5 <= count && count <= 67 && count % 2 == 1
 }
 
-// What the line opens, at its end.
-pub fn opened(line: Line) -> Opening
-    ensures { Opens line result }
+// What these numbers open, as far as no byte has spoilt the line: three for the date, then a station and its row in each pair.
+fn pairs_opened(numbers: &[u32]) -> Option<Opening>
+    ensures says { told result ≡ first.first true numbers.now }
+    ensures few { IfSome result (λ o. array_vec_len o.stations ≤ 32) }
 {
-    let whole = end(line);
-    let numbers = whole.numbers;
-    Opening {
-        count: station_count(whole.good, whole.count),
-        year: numbers[0],
-        month: numbers[1],
-        day: numbers[2],
-        stations: stations(numbers),
-        rows: rows(numbers),
+    if !is_whole(numbers.len()) {
+        return None;
     }
+    let mut stations = ArrayVec::new();
+    let mut rows = ArrayVec::new();
+    let (pairs, _) = numbers[3..].as_chunks::<2>();
+    for &[station, row] in pairs {
+        stations.push(station);
+        rows.push(narrow(row));
+    }
+    Some(Opening {
+        date: Date {
+            year: numbers[0],
+            month: numbers[1],
+            day: numbers[2],
+        },
+        stations,
+        rows,
+    })
 }
