@@ -1,11 +1,9 @@
 -- A value of an element, in the paper's terms, and what the code's answer stands for.
 -- Assumes nothing.
-use Rattle.std.specs.Prelude.{◌≡◌, ℕ, ◌≤◌, ℤ, nat_abs}
+use Rattle.std.specs.Prelude.{◌≡◌, ℕ, ◌≤◌, ℤ, nat_abs, Option, None, Some}
 use Rattle.laws.specs.Offset.{value}
-use Rattle.synop_codes.specs.declared.Value as code
-use Rattle.synop_codes.specs.declared.Value.TheVariants.{Missing, Read}
 use Rattle.synop_codes.specs.declared.Moisture.{Moisture}
-use Rattle.synop_codes.specs.declared.Moisture.TheVariants.{Nothing, DewPoint, Humidity}
+use Rattle.synop_codes.specs.declared.Moisture.TheVariants.{DewPoint, Humidity}
 
 -- "Missing" means that there is no value; a value that is there is a whole number of the element's unit. In the place of D's, a humidity
 -- in percent
@@ -15,15 +13,15 @@ pub data Value : Type 0 where
   humidity : ℕ → Value
 
 -- what the code answers, in offset binary, as a value
-abbrev pub meaning : code.Value → Value
-meaning Missing = missing
-meaning (Read n) = read (value n)
+abbrev pub meaning : Option ℕ → Value
+meaning None = missing
+meaning (Some n) = read (value n)
 
 -- S-2: "Reading group 2 now gives a dew point, a humidity in percent (001 to 100) or nothing"
-abbrev pub moisture : Moisture → Value
-moisture Nothing = missing
-moisture (DewPoint n) = read (value n)
-moisture (Humidity u) = humidity u
+abbrev pub moisture : Option Moisture → Value
+moisture None = missing
+moisture (Some (DewPoint n)) = read (value n)
+moisture (Some (Humidity u)) = humidity u
 
 -- D's number among the elements "T, D, P, W, C, V, R, X, M"
 abbrev pub dew_point : ℕ

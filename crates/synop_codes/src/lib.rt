@@ -3,150 +3,137 @@
 #![tactic(auto)]
 
 ghost use Rattle.std.specs.Prelude.{◌≡◌, ◌<◌, pos, neg_ℤ};
-ghost use Rattle.synop_codes.specs.Value.{meaning, moisture, read};
+ghost use Rattle.laws.specs.Offset.{value};
+ghost use Rattle.synop_codes.specs.Value.{meaning, moisture};
 ghost use Rattle.synop_codes.specs.Tables as tables;
 
-// A value of an element: missing, or a number v of its unit, kept in offset binary as v + 32768.
-#[derive(Clone, Copy)]
-pub enum Value {
-    Missing,
-    Read(u16),
-}
-
-// What group 2 of section 1 gives: a dew point, as `Value::Read` has it, a humidity in percent (1 to 100), or nothing.
-#[derive(Clone, Copy)]
+// What group 2 of section 1 gives, where it gives anything: a dew point, in offset binary, or a humidity in percent (1 to 100).
+#[derive(Clone, Copy, Debug, PartialEq, Eq)]
 pub enum Moisture {
-    Nothing,
     DewPoint(u16),
     Humidity(u8),
 }
 
-// ---- values of the elements
+// ---- values of the elements: a number v of the element's unit, kept in offset binary as v + 32768; `None` where it is missing
 
 // A number from 0 up, as a value.
-fn above(n: u32) -> Value
+fn above(n: u32) -> u16
     requires { n < 32768 }
-    ensures { meaning result ≡ read (pos n) }
+    ensures { value result ≡ pos n }
 {
-    Value::Read((32768 + n) as u16)
+    (32768 + n) as u16
 }
 
 // The negative of n, as a value.
-fn below(n: u32) -> Value
+fn below(n: u32) -> u16
     requires { n < 32768 }
-    ensures { meaning result ≡ read (neg_ℤ (pos n)) }
+    ensures { value result ≡ neg_ℤ (pos n) }
 {
-    Value::Read((32768 - n) as u16)
+    (32768 - n) as u16
 }
 
 // T, D, X and M, tenths of °C, from the sign's character and the number.
 #[tactic(auto, unfolding(crate::specs::Tables::temperature_of))]
-pub fn temperature_of(sign: u8, n: u32) -> Value
+pub fn temperature_of(sign: u8, n: u32) -> Option<u16>
     requires { n < 1000 }
     ensures { meaning result ≡ tables.temperature_of sign n }
 {
     match sign {
-        b'0' => above(n),
-        b'1' => below(n),
-        _ => Value::Missing,
+        b'0' => Some(above(n)),
+        b'1' => Some(below(n)),
+        _ => None,
     }
 }
 
 // A humidity in percent, from UUU of 29UUU.
 #[tactic(auto, unfolding(crate::specs::Tables::humidity_of))]
-fn humidity_of(uuu: u32) -> Moisture
+fn humidity_of(uuu: u32) -> Option<Moisture>
     ensures { moisture result ≡ tables.humidity_of uuu }
 {
     match uuu {
-        1..=100 => Moisture::Humidity(uuu as u8),
-        _ => Moisture::Nothing,
+        1..=100 => Some(Moisture::Humidity(uuu as u8)),
+        _ => None,
     }
 }
 
 // D or a humidity, from the sign's character, which is 9 before a humidity, and the number.
 #[tactic(auto, unfolding(crate::specs::Tables::moisture_of))]
-pub fn moisture_of(sign: u8, n: u32) -> Moisture
+pub fn moisture_of(sign: u8, n: u32) -> Option<Moisture>
     requires { n < 1000 }
     ensures { moisture result ≡ tables.moisture_of sign n }
 {
     if sign == b'9' {
         return humidity_of(n);
     }
-    match temperature_of(sign, n) {
-        Value::Missing => Moisture::Nothing,
-        Value::Read(d) => Moisture::DewPoint(d),
-    }
+    let dew_point = temperature_of(sign, n)?;
+    Some(Moisture::DewPoint(dew_point))
 }
 
 // P, tenths of hPa, from the first character of PPPP and its number.
 #[tactic(auto, unfolding(crate::specs::Tables::pressure_of))]
-pub fn pressure_of(first: u8, n: u32) -> Value
+pub fn pressure_of(first: u8, n: u32) -> Option<u16>
     requires { n < 10000 }
     ensures { meaning result ≡ tables.pressure_of first n }
 {
     match first {
-        b'0' => above(10000 + n),
-        b'9' => above(n),
-        _ => Value::Missing,
+        b'0' => Some(above(10000 + n)),
+        b'9' => Some(above(n)),
+        _ => None,
     }
 }
 
 // W, tenths of m/s, from iw and the number that ff or fff gives.
 #[tactic(auto, unfolding(crate::specs::Tables::wind_of))]
-pub fn wind_of(iw: u8, k: u32) -> Value
+pub fn wind_of(iw: u8, k: u32) -> Option<u16>
     requires { k < 1000 }
     ensures { meaning result ≡ tables.wind_of iw k }
 {
-    let metres = (iw == b'0') | (iw == b'1');
-    let knots = (iw == b'3') | (iw == b'4');
-    if metres {
-        return above(10 * k);
+    match iw {
+        b'0' | b'1' => Some(above(10 * k)),
+        b'3' | b'4' => Some(above((463 * k + 45) / 90)),
+        _ => None,
     }
-    if knots {
-        return above((463 * k + 45) / 90);
-    }
-    Value::Missing
 }
 
 // C, eighths, from N.
 #[tactic(auto, unfolding(crate::specs::Tables::cloud_of))]
-pub fn cloud_of(n: u32) -> Value
+pub fn cloud_of(n: u32) -> Option<u16>
     ensures { meaning result ≡ tables.cloud_of n }
 {
     match n {
-        0..=8 => above(n),
-        _ => Value::Missing,
+        0..=8 => Some(above(n)),
+        _ => None,
     }
 }
 
 // V, hundreds of metres, from VV.
 #[tactic(auto, unfolding(crate::specs::Tables::visibility_of))]
-pub fn visibility_of(vv: u32) -> Value
+pub fn visibility_of(vv: u32) -> Option<u16>
     ensures { meaning result ≡ tables.visibility_of vv }
 {
     match vv {
-        0..=50 => above(vv),
-        51..=55 => Value::Missing,
-        56..=80 => above(10 * (vv - 50)),
-        81..=88 => above(300 + 50 * (vv - 80)),
-        89 => above(700),
+        0..=50 => Some(above(vv)),
+        51..=55 => None,
+        56..=80 => Some(above(10 * (vv - 50))),
+        81..=88 => Some(above(300 + 50 * (vv - 80))),
+        89 => Some(above(700)),
         // 90 to 99
-        _ => Value::Missing,
+        _ => None,
     }
 }
 
 // R, tenths of mm, from RRR.
 #[tactic(auto, unfolding(crate::specs::Tables::rain_of))]
-pub fn rain_of(rrr: u32) -> Value
+pub fn rain_of(rrr: u32) -> Option<u16>
     requires { rrr < 1000 }
     ensures { meaning result ≡ tables.rain_of rrr }
 {
     match rrr {
-        0 => Value::Missing,
-        1..=989 => above(10 * rrr),
-        990 => above(0),
+        0 => None,
+        1..=989 => Some(above(10 * rrr)),
+        990 => Some(above(0)),
         // 991 to 999
-        _ => above(rrr - 990),
+        _ => Some(above(rrr - 990)),
     }
 }
 
