@@ -9,3 +9,4 @@ pub mod Offset
 pub mod Differences
 pub mod Signed
 pub mod Sizes
+pub mod Calls

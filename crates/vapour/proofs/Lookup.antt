@@ -2,7 +2,7 @@
 -- Assumes nothing.
 use mathlib.Core.Path.{◌≡◌, ◌∙◌, ap}
 use mathlib.Core.Bool.{◌&&◌, cond}
-use mathlib.Core.Option.{none, some}
+use Rattle.std.specs.Prelude.{None, Some}
 use Prim.Native.Nat.{ℕ, ◌+◌, ◌-◌, ◌<◌, ◌≤◌}
 use native.Mathlib.Omega.{arith}
 use borrow.Author.Tests.{leb-true, le-leb}
@@ -20,17 +20,17 @@ index n h =
     ap (λ (m : ℕ). sub_ℕ m 32768) e ∙ shift 32268 (n - 32268) 500
 
 -- present from 32268, −500 tenths, to 33268, 500 tenths
-pub at_offset : (n : ℕ) → pressure (value n) ≡ cond (leb 32268 n && leb n 33268) (some (entry (sub_ℕ (n - 32268) 500))) none
+pub at_offset : (n : ℕ) → pressure (value n) ≡ cond (leb 32268 n && leb n 33268) (Some (entry (sub_ℕ (n - 32268) 500))) None
 unfolding pressure
 at_offset n = rw (order 32768 32268 n, order 32768 n 33268) (go (known (leb 32268 n)))
   where
     go : Known (leb 32268 n) →
-        cond (leb 32268 n && leb n 33268) (some (entry (value n))) none ≡ cond (leb 32268 n && leb n 33268) (some (entry (sub_ℕ (n - 32268) 500))) none
+        cond (leb 32268 n && leb n 33268) (Some (entry (value n))) None ≡ cond (leb 32268 n && leb n 33268) (Some (entry (sub_ℕ (n - 32268) 500))) None
     go (is_true e) = rw (index n (leb-true 32268 n e))
     go (is_false e) = rw e
 
 -- at the dew point of an index
-pub at_index : (i : ℕ) → i < places → pressure (value (32268 + i)) ≡ some (entry (sub_ℕ i 500))
+pub at_index : (i : ℕ) → i < places → pressure (value (32268 + i)) ≡ Some (entry (sub_ℕ i 500))
 at_index i l =
     let e : 32268 + i - 32268 ≡ i = omega arith in
     rw (at_offset (32268 + i), e, le-leb 32268 (32268 + i) (omega arith), le-leb (32268 + i) 33268 (omega arith))

@@ -2,7 +2,7 @@
 -- Assumes nothing.
 use mathlib.Core.Path.{◌≡◌, refl}
 use mathlib.Core.Bool.{Bool, true}
-use mathlib.Core.Option.{none, some}
+use Rattle.std.specs.Prelude.{None, Some}
 use Prim.Native.Nat.{ℕ, suc, ◌+◌, ◌-◌, ◌≤◌, ◌<◌}
 use native.Mathlib.Omega.{arith}
 use borrow.Author.Tests.{leb-true}
@@ -38,14 +38,14 @@ entry_most (negsuc n) h =
     rw (below_zero 500 n (omega arith)) at (index_most (500 - suc n) (omega arith))
 
 -- a vapour pressure that is there
-pub pressure_most : (t : ℤ) (n : ℕ) → pressure t ≡ some n → n ≤ 12419
+pub pressure_most : (t : ℤ) (n : ℕ) → pressure t ≡ Some n → n ≤ 12419
 unfolding pressure
 pressure_most t n e = go (known (in_table t))
   where
     go : Known (in_table t) → n ≤ 12419
     go (is_true h) =
-        let s : entry t ≡ n = cc (cond_true (in_table t) (some (entry t)) none h) in
+        let s : entry t ≡ n = cc (cond_true (in_table t) (Some (entry t)) None h) in
         rw s at (entry_most t h)
     go (is_false h) =
-        let z : ◌≡◌ {A = ℕ} 0 1 = cc (cond_false (in_table t) (some (entry t)) none h) in
+        let z : ◌≡◌ {A = ℕ} 0 1 = cc (cond_false (in_table t) (Some (entry t)) None h) in
         omega arith

@@ -8,7 +8,8 @@ use Prim.Native.Nat.{ℕ, ◌+◌, ◌-◌, ◌*◌, ◌/◌, ◌%◌, ◌<◌, 
 use native.Mathlib.Omega.{arith}
 use lib.Dec.{T, eqb, eqb→eq}
 use lib.IntN.{sub_ℕ}
-use lib.ListN.{length, get_or}
+use lib.ListN.{length, get_or, take, drop, length-take, length-drop}
+use Rattle.std.proofs.lemmas.List.{get_or-take, get_or-drop}
 use Rattle.laws.proofs.Bools.{and_left, and_right}
 use Rattle.laws.proofs.Every.{every, entry as tested}
 use Rattle.vapour.specs.Vapour.{places, entry}
@@ -58,14 +59,34 @@ module _ (ws ds : List ℕ) (t : right ws ds ≡ true) where
           let e : from (i - i / spacing) ≡ i = omega arith in
           rw e at (at_step (i - i / spacing) (omega arith))
 
--- ---- a sum on its way from the last whole entry to the index i: it has come to the index p
+-- ---- a sum on its way from the last whole entry to the index i: it has added j differences, of those that stand between
 module _ {ws ds : List ℕ} (h : Kept ws ds) (i : ℕ) (l : i < places) where
-  pub begun : get_or ws ((i - i % spacing) / spacing) 0 ≡ entry (sub_ℕ (i - i % spacing) 500)
-  begun = h.each (i - i % spacing) (omega arith) (omega arith)
+  -- the index that it has come to
+  abbrev pub place : ℕ → ℕ
+  place j = spacing * (i / spacing) + j
 
-  module _ (p x : ℕ) (a : i - i % spacing ≤ p) (b : p < i) (e : x ≡ entry (sub_ℕ p 500)) where
-    pub next : x + get_or ds (p - p / spacing) 0 ≡ entry (sub_ℕ (p + 1) 500)
-    next = rw e (h.step p (omega arith) (omega arith))
+  abbrev pub between : List ℕ
+  between = take (i / spacing * (spacing - 1) + i % spacing - i / spacing * (spacing - 1)) (drop (i / spacing * (spacing - 1)) ds)
 
-    pub fits : x + get_or ds (p - p / spacing) 0 ≤ 12419
-    fits = rw next (index_most (p + 1) (omega arith))
+  pub all : length between ≡ i % spacing
+  all =
+      let o = h.others in
+      let w = h.wholes in
+      grind (arith, length-take, length-drop)
+
+  pub begun : get_or ws (i / spacing) 0 ≡ entry (sub_ℕ (place 0) 500)
+  begun =
+      let e : place 0 / spacing ≡ i / spacing = omega arith in
+      rw e at (h.each (place 0) (omega arith) (omega arith))
+
+  module _ (j x d : ℕ) (b : j < length between) (e : x ≡ entry (sub_ℕ (place j) 500)) (f : d ≡ get_or between j 0) where
+    pub next : x + d ≡ entry (sub_ℕ (place (j + 1)) 500)
+    next =
+        let k : j < i % spacing = rw all at b in
+        let q : place j - place j / spacing ≡ i / spacing * (spacing - 1) + j = omega arith in
+        let r : place j + 1 ≡ place (j + 1) = omega arith in
+        rw (e, f, get_or-take (i / spacing * (spacing - 1) + i % spacing - i / spacing * (spacing - 1)) (drop (i / spacing * (spacing - 1)) ds) j 0 (omega arith), get_or-drop (i / spacing * (spacing - 1)) ds j 0, ← q, ← r)
+        (h.step (place j) (omega arith) (omega arith))
+
+    pub fits : x + d ≤ 12419
+    fits = let k : j < i % spacing = rw all at b in rw next (index_most (place (j + 1)) (omega arith))

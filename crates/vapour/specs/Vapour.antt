@@ -1,8 +1,7 @@
 -- Vapour pressure in hundredths of hPa at a dew point of t tenths of a degree Celsius: document 01, "The day line", second bullet,
 -- sentence by sentence. On ℕ, a / b is floor(a / b).
 -- Assumes nothing.
-use Rattle.std.specs.Prelude.{◌≡◌, Bool, ◌&&◌, cond, List, ℕ, zero, suc, ◌+◌, ◌*◌, ◌/◌, ◌<◌, ℤ, pos, negsuc, neg_ℤ, nat_abs, ◌+ℤ◌, length, get_or}
-use Rattle.std.proofs.Math.Option.{Option, none, some}
+use Rattle.std.specs.Prelude.{◌≡◌, Bool, ◌&&◌, cond, List, ℕ, zero, suc, ◌+◌, ◌*◌, ◌/◌, ◌<◌, ℤ, pos, negsuc, neg_ℤ, nat_abs, ◌+ℤ◌, length, get_or, Option, None, Some}
 use Rattle.std.proofs.Math.IntN.{sub_ℕ}
 use Rattle.std.specs.Int.Signed.{le_z}
 
@@ -48,4 +47,4 @@ in_table t = le_z (neg_ℤ (pos 500)) t && le_z t (pos 500)
 
 -- "(outside: missing)"; missing means that there is no value
 unfoldable pub pressure : ℤ → Option ℕ
-pressure t = cond (in_table t) (some (entry t)) none
+pressure t = cond (in_table t) (Some (entry t)) None

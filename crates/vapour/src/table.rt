@@ -4,11 +4,8 @@
 ghost use Rattle.std.specs.Prelude.{◌≡◌, ◌<◌};
 ghost use Rattle.std.proofs.Math.IntN.{sub_ℕ};
 ghost use Rattle.vapour.specs.Vapour.{places, entry};
-ghost use Rattle.vapour.specs.Answer.{told};
 ghost use Rattle.vapour.specs.Generator.{AsFilled};
 ghost use Rattle.vapour.specs.Kept.{Kept};
-
-use crate::answer::Pressure;
 
 // How many entries there are.
 pub const PLACES: usize = 1001;
@@ -156,19 +153,19 @@ pub fn at(whole: &[u16], differences: &[u8], index: usize) -> u16
     requires { (Kept whole.now differences.now) × (index < places) }
     ensures { result ≡ entry (sub_ℕ index 500) }
 {
-    let first = index - index % SPACING;
-    let mut entry = whole[first / SPACING];
-    for place in first..index {
-        entry += differences[place - place / SPACING] as u16;
+    let block = index / SPACING;
+    let first = block * (SPACING - 1);
+    let mut entry = whole[block];
+    for difference in &differences[first..first + index % SPACING] {
+        entry += u16::from(*difference);
     }
     entry
 }
 
 // Document 02, S-1 and S-4: the filled slice equals the lookup, entry by entry. The contract is the theorem.
-pub fn entry_as_filled(index: u16) -> Pressure
+pub fn entry_as_filled(index: u16) -> Option<u16>
     requires { index < places }
-    ensures { AsFilled index (told result) }
+    ensures { AsFilled index result }
 {
-    let r = crate::pressures([crate::LOWEST + index; 9]);
-    r[0]
+    crate::pressures([crate::LOWEST + index; 9])[0]
 }

@@ -6,19 +6,19 @@ mod recurrence;
 ghost use Rattle.vapour.specs.Generator.{Generated};
 
 use crate::recurrence::entry_at;
-use vapour::{Filling, PLACES};
+use vapour::{LengthNeeded, PLACES};
 
 // Fills a slice of 1001 numbers with the entries, that of the dew point −500 tenths first. A slice of another length is
-// left as it was, and the answer is the length needed.
+// left as it was, and the error is the length needed.
 #[tactic(auto, using(vapour::proofs::FilledSlice::untouched))]
-pub fn fill(entries: &mut [u16]) -> Filling
+pub fn fill(entries: &mut [u16]) -> Result<(), LengthNeeded>
     ensures { Generated entries.old result entries.new }
 {
     if entries.len() != PLACES {
-        return Filling::LengthNeeded(PLACES as u32);
+        return Err(LengthNeeded(PLACES as u32));
     }
-    for index in 0..PLACES {
-        entries[index] = entry_at(index as u64);
+    for (index, entry) in entries.iter_mut().enumerate() {
+        *entry = entry_at(index as u64);
     }
-    Filling::Filled
+    Ok(())
 }

@@ -1,35 +1,27 @@
--- `vapour::table::at` meets its contract. The loop's invariant: the entry at the place that the sum has reached.
+-- `vapour::table::at` meets its contract.
 use mathlib.Core.Path.{◌≡◌}
+use Prim.Native.Nat.{◌+◌, ◌*◌, ◌/◌}
 use native.Mathlib.Omega.{arith}
-use borrow.Author.Rules.{rules}
-use Rattle.vapour.proofs.Rule.{begun, next, fits}
+use Rattle.vapour.specs.Kept.{spacing}
+use Rattle.vapour.proofs.Rule.{begun, next, fits, all}
 use Rattle.vapour.proofs.table.at.Goals as goal
 
-pub bounds-whole-first : goal.bounds-whole-first
-bounds-whole-first c = omega (arith, c.requires.0.wholes)
-
-pub bounds-differences-place : goal.bounds-differences-place
-bounds-differences-place c =
-    let h = c.requires.0 in
-    omega (arith, h.wholes, h.others)
+pub loop-difference-init : goal.loop-difference-init
+loop-difference-init c = begun c.requires.0 c.args.index c.requires.1
 
 -- a turn's sum, and with it the difference, fits 16 bits
 pub overflow_add-entry : goal.overflow_add-entry
 overflow_add-entry c =
-    let b = c in
-    let i = c.loop-place.invariant in
-    omega (arith, fits b.requires.0 b.args.index b.requires.1 _ _ i.0 c.loop-place-test.true i.2)
+    let d = c.loop-difference in
+    omega (arith, fits c.requires.0 c.args.index c.requires.1 d.difference-index d.entry c.from-entry.result c.loop-difference-test.true d.invariant c.from-entry.ensures)
 
-pub loop-place-preserved : goal.loop-place-preserved
-loop-place-preserved c =
-    let b = c in
-    let i = c.loop-place.invariant in
-    (search rules, search rules, next b.requires.0 b.args.index b.requires.1 _ _ i.0 c.loop-place-test.true i.2)
+pub loop-difference-preserved : goal.loop-difference-preserved
+loop-difference-preserved c =
+    let d = c.loop-difference in
+    next c.requires.0 c.args.index c.requires.1 d.difference-index d.entry c.from-entry.result c.loop-difference-test.true d.invariant c.from-entry.ensures
 
 pub returns : goal.returns
 returns c =
-    let e : c.loop-place.place ≡ c.args.index = omega arith in
-    rw e at c.loop-place.invariant.2
-
-pub loop-place-init : goal.loop-place-init
-loop-place-init c = (search rules, search rules, begun c.requires.0 c.args.index c.requires.1)
+    let d = c.loop-difference in
+    let e : spacing * (c.args.index / spacing) + d.difference-index ≡ c.args.index = omega (arith, all c.requires.0 c.args.index c.requires.1) in
+    rw e at d.invariant

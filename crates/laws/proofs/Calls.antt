@@ -1,0 +1,43 @@
+-- Lists that calls of one closure made, each call leaving the closure as it was.
+--     mapped      an array's `map`
+--     tabled      `std::array::from_fn`
+-- Assumes nothing.
+use mathlib.Core.Path.{◌≡◌, sym, ◌∙◌, subst, ap}
+use mathlib.Core.Logic.{⊎_elim}
+use mathlib.Core.List.{List, map}
+use Prim.Native.Nat.{ℕ, zero, suc, ◌+◌, ◌≤◌, ◌<◌}
+use native.Mathlib.Nat.{eq-or-lt_of_le}
+use native.Mathlib.Omega.{arith}
+use lib.ListN.{length, get_or, length-map}
+use Rattle.std.proofs.Common.{zero-le, ext_get_or}
+use Rattle.std.specs.Array.{IsMapOf, MapsFrom, IsFromFnResult, IsFromFnResultFrom}
+use Rattle.std.specs.Fn.{Called, Mut}
+use Rattle.laws.specs.Table.{table}
+use Rattle.laws.proofs.Maps.{map_at}
+use Rattle.laws.proofs.Tables.{is_table}
+
+module _ {F A B : Type 0} (g : Mut F (A × Unit {0}) B) (f : F) (h : A → B)
+    (calls : (x : A) (r : B) (q : F) → Called g f (x, tt) r q → (r ≡ h x) × (q ≡ f)) (xs : List A) (ys : List B) (d : A) (e : B) where
+  mapped_at : (n i : ℕ) (p : F) → p ≡ f → MapsFrom g p xs ys i n → (k : ℕ) → i ≤ k → k < i + n → get_or ys k e ≡ h (get_or xs k d)
+  mapped_at zero i p s m k l b = absurd (omega arith)
+  mapped_at (suc n) i p s (q, x, y, at_x, at_y, ran, rest) k l b =
+      let c = calls x y q (subst (λ (z : F). Called g z (x, tt) y q) s ran) in
+      ⊎_elim (λ r. subst (λ (j : ℕ). get_or ys j e ≡ h (get_or xs j d)) r (at_y.1 e ∙ c.0 ∙ ap h (sym (at_x.1 d))))
+      (λ m. mapped_at n (i + 1) q c.1 rest k (omega arith) (omega arith)) (eq-or-lt_of_le l)
+
+  pub mapped : (n : ℕ) → length xs ≡ n → IsMapOf g f xs ys n → ys ≡ map h xs
+  mapped n long m =
+      ext_get_or e ys (map h xs) (m.long ∙ sym (length-map xs h ∙ long))
+      (λ k l. let b : k < length xs = omega (arith, long, m.long) in mapped_at n 0 f (λ i. f) m.each k zero-le (omega arith) ∙ sym (map_at h xs k d e b))
+
+module _ {F B : Type 0} (g : Mut F (ℕ × Unit {0}) B) (f : F) (h : ℕ → B)
+    (calls : (k : ℕ) (r : B) (q : F) → Called g f (k, tt) r q → (r ≡ h k) × (q ≡ f)) (ys : List B) (e : B) where
+  tabled_at : (n i : ℕ) (p : F) → p ≡ f → IsFromFnResultFrom g p ys i n → (k : ℕ) → i ≤ k → k < i + n → get_or ys k e ≡ h k
+  tabled_at zero i p s m k l b = absurd (omega arith)
+  tabled_at (suc n) i p s (q, y, at_y, ran, rest) k l b =
+      let c = calls i y q (subst (λ (z : F). Called g z (i, tt) y q) s ran) in
+      ⊎_elim (λ r. subst (λ (j : ℕ). get_or ys j e ≡ h j) r (at_y.1 e ∙ c.0)) (λ m. tabled_at n (i + 1) q c.1 rest k (omega arith) (omega arith))
+      (eq-or-lt_of_le l)
+
+  pub tabled : (n : ℕ) → IsFromFnResult g f ys n → ys ≡ table n h
+  tabled n m = is_table n h ys e m.long (λ k b. tabled_at n 0 f (λ i. f) m.each k zero-le (omega arith))
