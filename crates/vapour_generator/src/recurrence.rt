@@ -11,11 +11,7 @@ fn size(index: u64) -> u64
     requires { index < places }
     ensures { (result ≡ nat_abs (sub_ℕ index 500)) × (result ≤ 500) }
 {
-    if index < 500 {
-        500 - index
-    } else {
-        index - 500
-    }
+    index.abs_diff(500)
 }
 
 // q of the dew point t = index − 500, where t + 2435 = index + 1935.

@@ -3,18 +3,13 @@
 #![tactic(auto)]
 
 use std::io;
-use vapour::{Filling, PLACES};
+use vapour::PLACES;
 use vapour_generator::fill;
 
-// A number in decimal, on a line of its own.
-fn print_line(rt: &impl Print, n: u16) -> io::Result<()> {
-    println!(rt; "{n}")
-}
-
-// The lines of the numbers, up to one that was not written.
+// The numbers in decimal, one a line, up to one that was not written.
 fn print_lines(rt: &impl Print, numbers: &[u16]) -> io::Result<()> {
-    for k in 0..numbers.len() {
-        print_line(rt, numbers[k])?;
+    for number in numbers {
+        println!(rt; "{number}")?;
     }
     Ok(())
 }
@@ -22,10 +17,8 @@ fn print_lines(rt: &impl Print, numbers: &[u16]) -> io::Result<()> {
 // The table, up to a line that was not written.
 fn print_table(rt: &impl Print) -> io::Result<()> {
     let mut entries = [0u16; PLACES];
-    match fill(&mut entries) {
-        Filling::Filled => print_lines(rt, &entries),
-        Filling::LengthNeeded(n) => Err(io::Error::other("the table has another length")),
-    }
+    fill(&mut entries).map_err(|_| io::Error::other("the table has another length"))?;
+    print_lines(rt, &entries)
 }
 
 fn main(rt: HostRuntime) -> io::Result<()> {

@@ -1,15 +1,16 @@
-use Rattle.std.proofs.Common.{rules, ◌≡◌, ℕ, ◌+◌, ◌-◌, ◌*◌, ◌<◌, ◌≤◌, length, ◌/◌, ◌%◌, Bool, true, false, nat_eq, nat_lt, List, [], ◌∷◌, ◌++◌, slice_index_or, slice_set, bit_and, bit_or, Fits, w8, w32, w64, Bor, MutBor}
-use Rattle.vapour.specs.Generator.{Generated}
+-- `vapour_generator::fill` meets its contract. The loop's invariant: the entries filled so far.
+use native.Mathlib.Omega.{arith}
+use borrow.Author.Rules.{rules}
+use Rattle.laws.proofs.Fill as Fill
+use Rattle.vapour.specs.Vapour.{places}
+use Rattle.vapour.proofs.FilledSlice.{all_filled}
 use Rattle.vapour_generator.proofs.fill.Goals as goal
 
--- src/lib.rt:20:5
 pub loop-index-init : goal.loop-index-init
-loop-index-init c = ?
+loop-index-init c = Fill.none _ _ places _ (omega arith)
 
--- src/lib.rt:20:5
 pub loop-index-preserved : goal.loop-index-preserved
-loop-index-preserved c = ?
+loop-index-preserved c = Fill.more _ c.loop-index.invariant (search rules) c.entry_at.ensures
 
--- src/lib.rt:13:1
 pub returns : goal.returns
-returns c = ?
+returns c = all_filled (omega arith) c.loop-index.invariant (search rules)
