@@ -8,7 +8,7 @@ ghost use Rattle.engine_answers.specs.Replies.{reply};
 use bulletin::Tally;
 use engine_answers::{Cell, Reply};
 use laws::difference;
-use vapour::Filling;
+use vapour::LengthNeeded;
 
 // The number of an answer without a value.
 pub fn number_of(r: Reply) -> u32
@@ -39,11 +39,11 @@ pub fn count_numbers(t: Tally) -> [u32; 2]
 }
 
 // 0 where the vapour table was filled, else the length needed.
-pub fn filling_number(f: Filling) -> u32
-    ensures { result ≡ filling_number f }
+pub fn filling_number(filling: Result<(), LengthNeeded>) -> u32
+    ensures { result ≡ filling_number filling }
 {
-    match f {
-        Filling::Filled => 0,
-        Filling::LengthNeeded(n) => n,
+    match filling {
+        Ok(()) => 0,
+        Err(LengthNeeded(n)) => n,
     }
 }

@@ -1,7 +1,6 @@
 -- "Means of T, D, P, W, C and of vapour pressure over slots 0 to 7."
 -- Assumes nothing.
-use Rattle.std.specs.Prelude.{Bool, not, cond, ◌||◌, List, ℕ, zero, suc, ◌+◌, ◌*◌, ◌/◌, eqb, ℤ, pos, nat_abs, ◌+ℤ◌}
-use Rattle.std.proofs.Math.Option.{Option, none, some}
+use Rattle.std.specs.Prelude.{Bool, not, cond, ◌||◌, List, ℕ, zero, suc, ◌+◌, ◌*◌, ◌/◌, eqb, ℤ, pos, nat_abs, ◌+ℤ◌, Option, None, Some}
 use Rattle.laws.specs.All.{all}
 use Rattle.laws.specs.Table.{table}
 use Rattle.vapour.specs.Vapour.{pressure}
@@ -48,8 +47,8 @@ abbrev pub vapour_at : Cell → Cell → Cell
 vapour_at b d = cond (missing b) (discarded 0) (of (pressure b.value))
   where
     of : Option ℕ → Cell
-    of none = discarded 0
-    of (some e) = record { state = b.state; flag = b.flag; value = pos (share d e) }
+    of None = discarded 0
+    of (Some e) = record { state = b.state; flag = b.flag; value = pos (share d e) }
 
 -- of a slot with those T and D
 abbrev pub vapour_cell : Cell → Cell → Cell

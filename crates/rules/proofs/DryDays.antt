@@ -4,7 +4,7 @@
 use mathlib.Core.Path.{◌≡◌, refl}
 use mathlib.Core.Bool.{Bool, true, false}
 use mathlib.Core.List.{[], ◌∷◌}
-use mathlib.Core.Option.{Option, none, some}
+use Rattle.std.specs.Prelude.{Option, None, Some}
 use Prim.Native.Nat.{ℕ}
 use lib.IntN.{ℤ, pos}
 use Rattle.laws.specs.Table.{table}
@@ -39,16 +39,16 @@ rain t = let b = (settled_station (date 2024 4 11) t).block in (day_line b.heads
 
 pub record DryDays : Type 0 where
   -- "Its days come out without a total": now with one
-  pub nothing : rain (dry 4 (dry 8 new)) ≡ some (pos 0)
+  pub nothing : rain (dry 4 (dry 8 new)) ≡ Some (pos 0)
   -- "so that a shower reported at noon is not lost"; the same where 18 UTC sends its 0 as 69902
-  pub shower : rain (report 2 1 true 1 (read (pos 30)) (dry 4 (dry 8 new))) ≡ some (pos 30)
-  pub sent : rain (report 2 1 true 1 (read (pos 30)) (report 4 3 true 2 (read (pos 0)) (dry 8 new))) ≡ some (pos 30)
+  pub shower : rain (report 2 1 true 1 (read (pos 30)) (dry 4 (dry 8 new))) ≡ Some (pos 30)
+  pub sent : rain (report 2 1 true 1 (read (pos 30)) (report 4 3 true 2 (read (pos 0)) (dry 8 new))) ≡ Some (pos 30)
   -- an R of noon that the range step discards
-  pub discarded : rain (report 2 1 true 1 (read (pos 9890)) (dry 4 (dry 8 new))) ≡ none
+  pub discarded : rain (report 2 1 true 1 (read (pos 9890)) (dry 4 (dry 8 new))) ≡ None
   -- "A group 6 that is present wins over iR, even if its value is missing"
-  pub present : rain (report 4 3 true 0 missing (dry 8 new)) ≡ none
+  pub present : rain (report 4 3 true 0 missing (dry 8 new)) ≡ None
   -- "at other slots it stays missing": 21 UTC for 18, and tR is 0 there
-  pub elsewhere : rain (dry 5 (dry 8 new)) ≡ none
+  pub elsewhere : rain (dry 5 (dry 8 new)) ≡ None
 
 pub dry_days : DryDays
 unfolding table with_slot with_checked with_copies with_block

@@ -7,7 +7,7 @@
 use mathlib.Core.Path.{◌≡◌, refl, sym, ◌∙◌, ap}
 use mathlib.Core.Bool.{true, false}
 use mathlib.Core.List.{List, [], ◌∷◌, map}
-use mathlib.Core.Option as option
+use Rattle.std.specs.Prelude.{None, Some}
 use Prim.Native.Nat.{ℕ}
 use native.Mathlib.Omega.{arith}
 use lib.IntN.{pos}
@@ -348,9 +348,9 @@ line =
       wind = absent;
       cloud = absent;
       vapour = absent;
-      rain = option.none;
-      warmest = option.some 0;
-      coldest = option.some 0;
+      rain = None;
+      warmest = Some 0;
+      coldest = Some 0;
       read = 7;
       corrected = 0;
       filled = 0;

@@ -5,7 +5,7 @@
 use mathlib.Core.Path.{◌≡◌, refl}
 use mathlib.Core.Bool.{false}
 use mathlib.Core.List.{List, [], ◌∷◌}
-use mathlib.Core.Option as option
+use Rattle.std.specs.Prelude.{None, Some}
 use lib.IntN.{pos}
 use Rattle.laws.specs.Table.{table}
 use Rattle.synop_codes.specs.Value.{Value, missing, read, humidity}
@@ -51,9 +51,9 @@ line =
       wind = absent;
       cloud = absent;
       vapour = mended (pos 2448);
-      rain = option.none;
-      warmest = option.some 7;
-      coldest = option.some 0;
+      rain = None;
+      warmest = Some 7;
+      coldest = Some 0;
       read = 15;
       corrected = 0;
       filled = 1;

@@ -1,7 +1,6 @@
 -- Document 01's proof table: "To be shown of the rules themselves, as one conjunction", each line on the definition that the contracts cite.
 -- Assumes nothing.
-use Rattle.std.specs.Prelude.{◌≡◌, true, List, [], ◌∷◌, ℤ, pos, neg_ℤ}
-use Rattle.std.proofs.Math.Option as option
+use Rattle.std.specs.Prelude.{◌≡◌, true, List, [], ◌∷◌, ℤ, pos, neg_ℤ, Some}
 use Rattle.calendar.specs.Dates.{next_day}
 use Rattle.synop_codes.specs.Tables.{char}
 use Rattle.synop_figures.specs.Elements.{wind_ff, visibility, rain, pressure}
@@ -40,8 +39,8 @@ pub record ProofTable : Type 0 where
   pub pressure_0132 : pressure (char 0) (char 1) (char 3) (char 2) ≡ read (pos 10132)
   pub pressure_8500 : pressure (char 8) (char 5) (char 0) (char 0) ≡ missing
   -- "vapour at 0 is 612, at 100 is 1229"
-  pub vapour_0 : vapour.pressure (pos 0) ≡ option.some 612
-  pub vapour_100 : vapour.pressure (pos 100) ≡ option.some 1229
+  pub vapour_0 : vapour.pressure (pos 0) ≡ Some 612
+  pub vapour_100 : vapour.pressure (pos 100) ≡ Some 1229
   -- "fill of −5, −4 is −4": T of slot 1 between those of slots 0 and 2
   pub fill : slot (fill_of temperature (three (plain (neg_ℤ (pos 5))) none (plain (neg_ℤ (pos 4))))) 1 ≡ record { state = 3; flag = 0; value = neg_ℤ (pos 4) }
   -- "T 60, −70, 80 mends to 70, while 60, 161, 61 keeps 161"
