@@ -11,5 +11,5 @@ abbrev pub Holds : ℕ → List ℕ → List ℕ → Type 0
 Holds room held text = held ≡ fitting room text
 
 -- s is written behind the text that was there, as far as there is room
-abbrev pub Adds : ℕ → List ℕ → List ℕ → List ℕ → Type 0
-Adds room old new s = Holds room new (old ++ s)
+pub record Adds (room : ℕ) (old new s : List ℕ) : Type 0 where
+  pub holds : Holds room new (old ++ s)
