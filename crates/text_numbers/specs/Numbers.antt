@@ -1,5 +1,5 @@
 -- Numbers in decimal. Assumes nothing.
-use Rattle.std.specs.Prelude.{ℕ, zero, suc, ◌+◌, ◌/◌, ◌%◌, ◌<◌, cond, List, [], ◌∷◌, ◌++◌, ltb, ℤ, pos, negsuc}
+use Rattle.std.specs.Prelude.{ℕ, zero, suc, ◌+◌, ◌/◌, ◌%◌, cond, List, [], ◌∷◌, ◌++◌, ltb, ℤ, pos, negsuc}
 
 -- the last decimal digit of n as a character
 abbrev pub last_digit : ℕ → ℕ
@@ -13,11 +13,6 @@ five_digits n = last_digit (n / 10000) ∷ last_digit (n / 1000) ∷ last_digit 
 unfoldable pub digits : ℕ → ℕ → List ℕ
 digits zero n = last_digit n ∷ []
 digits (suc k) n = cond (ltb n 10) (last_digit n ∷ []) (digits k (n / 10) ++ last_digit n ∷ [])
-
--- k + 1 digits are enough for n
-unfoldable pub Enough : ℕ → ℕ → Type 0
-Enough zero n = n < 10
-Enough (suc k) n = Enough k (n / 10)
 
 -- a number of 64 bits has at most 20
 abbrev pub decimal : ℕ → List ℕ
