@@ -2,13 +2,12 @@
 -- Assumes nothing.
 use mathlib.Core.Path.{◌≡◌, refl}
 use mathlib.Core.List.{[], ◌∷◌}
-use Rattle.daily.specs.declared.Rain.TheVariants as rains
-use Rattle.daily.specs.declared.Extreme.TheVariants as extremes
+use Rattle.std.specs.Prelude.{None, Some}
 use Rattle.dayline_print.specs.Printed.{station_text, refused_text}
 use Rattle.text_numbers.specs.Numbers.{digits}
 
 -- `40001 - 0 0 7 0 0 74` and the end of the line
-line_example : station_text 40001 rains.Absent (extremes.Slot 0) (extremes.Slot 0) 7 0 0 74 ≡ 52 ∷ 48 ∷ 48 ∷ 48 ∷ 49 ∷ 32 ∷ 45 ∷ 32 ∷ 48 ∷ 32 ∷ 48 ∷ 32 ∷ 55 ∷ 32 ∷ 48 ∷ 32 ∷ 48 ∷ 32 ∷ 55 ∷ 52 ∷ 10 ∷ []
+line_example : station_text 40001 None (Some 0) (Some 0) 7 0 0 74 ≡ 52 ∷ 48 ∷ 48 ∷ 48 ∷ 49 ∷ 32 ∷ 45 ∷ 32 ∷ 48 ∷ 32 ∷ 48 ∷ 32 ∷ 55 ∷ 32 ∷ 48 ∷ 32 ∷ 48 ∷ 32 ∷ 55 ∷ 52 ∷ 10 ∷ []
 unfolding station_text digits
 line_example = refl
 

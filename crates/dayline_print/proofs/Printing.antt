@@ -1,28 +1,34 @@
--- How long the printed lines are, and that a buffer has room for them.
+-- What std prints of the numbers of a line, and how long the lines are.
 -- Assumes nothing.
-use mathlib.Core.Path.{◌≡◌}
-use mathlib.Core.List.{List}
-use Prim.Native.Nat.{ℕ, ◌≤◌}
+use mathlib.Core.Path.{◌≡◌, refl}
+use Prim.Native.Nat.{ℕ, ◌<◌, ◌≤◌, ◌^◌}
 use native.Mathlib.Omega.{arith}
+use lib.IntN.{ℤ}
 use lib.ListN.{length, length-append}
+use Rattle.std.specs.Prelude.{Option, None, Some, IfSome, FitsSigned}
+use Rattle.std.specs.Int.{w32}
+use Rattle.std.specs.Fmt.{decimal as printed, signed_decimal as printed_signed}
 use Rattle.daily.specs.declared.DayLine.{DayLine}
-use Rattle.daily.specs.declared.Rain.{Rain}
-use Rattle.daily.specs.declared.Rain.TheVariants as rains
-use Rattle.daily.specs.declared.Extreme.{Extreme}
-use Rattle.daily.specs.declared.Extreme.TheVariants as extremes
-use Rattle.text_bytes.specs.Written.{Written, Adds}
-use Rattle.text_bytes.proofs.Writing.{written_all}
-use Rattle.text_numbers.proofs.Decimals.{digits_short, signed_short}
-use Rattle.dayline_print.specs.Printed.{rain, slot, station_text, day_text, refused_text}
+use Rattle.text_numbers.proofs.Decimals.{decimal_printed, signed_printed, digits_short, signed_short}
+use Rattle.dayline_print.specs.Printed.{or_dash, rain, slot, station_text, day_text, refused_text}
+
+-- ---- as printed
+pub rain_printed : (r : Option ℤ) → IfSome r (λ z. FitsSigned w32 z) → or_dash printed_signed r ≡ rain r
+rain_printed None h = refl
+rain_printed (Some z) h = signed_printed z h
+
+pub slot_printed : (e : Option ℕ) → IfSome e (λ k. k < 2 ^ 64) → or_dash printed e ≡ slot e
+slot_printed None h = refl
+slot_printed (Some k) h = decimal_printed k h
 
 -- ---- lengths
-rain_short : (r : Rain) → length (rain r) ≤ 21
-rain_short rains.Absent = omega arith
-rain_short (rains.Tenths z) = signed_short z
+rain_short : (r : Option ℤ) → length (rain r) ≤ 21
+rain_short None = omega arith
+rain_short (Some z) = signed_short z
 
-slot_short : (e : Extreme) → length (slot e) ≤ 20
-slot_short extremes.Absent = omega arith
-slot_short (extremes.Slot k) = digits_short 19 k
+slot_short : (e : Option ℕ) → length (slot e) ≤ 20
+slot_short None = omega arith
+slot_short (Some k) = digits_short 19 k
 
 pub day_short : (station : ℕ) (d : DayLine) → length (day_text station d) ≤ 160
 unfolding station_text
@@ -42,7 +48,3 @@ day_short station d =
 pub refused_short : (n : ℕ) → length (refused_text n) ≤ 160
 unfolding refused_text
 refused_short n = simp length-append (omega (arith, digits_short 19 n))
-
--- ---- the whole text, where there is room for it
-pub shown : {buf : List ℕ} (new : List ℕ) (n : ℕ) (text : List ℕ) → Adds buf 0 new n text → length new ≡ 160 → length text ≤ 160 → Written buf new n text
-shown new n text f l h = written_all text f (omega arith)

@@ -1,70 +1,65 @@
-// What the program `dayline` prints, put into a buffer. Each function puts its part behind the bytes that are there, as far as there is
-// room, and answers how many are there then.
+// What the program `dayline` prints. Each inner function puts its part behind the text that is there, as far as there is room.
 #![tactic(auto)]
 
-ghost use Rattle.text_bytes.specs.Written.{Written, Adds};
-ghost use Rattle.text_numbers.specs.Numbers.{field};
+ghost use Rattle.std.specs.Prelude.{◌≡◌};
+ghost use Rattle.text_bytes.specs.Written.{Adds};
+ghost use Rattle.text_numbers.specs.Numbers as numbers;
 ghost use Rattle.dayline_print.specs.Printed as printed;
 
-use daily::{DayLine, Extreme, Rain};
+use arrayvec::ArrayVec;
+use daily::DayLine;
+use itoa::Integer;
 use text_bytes::{put, put_all};
-use text_numbers::{five_digits, number, signed};
+use text_numbers::{five_digits, number};
 
-fn rain(out: &mut [u8], at: usize, r: Rain) -> usize
-    ensures { Adds out.old at out.new result (field (printed.rain r)) }
+// A number behind a space, or `-` where there is none.
+fn field<I: Integer, const N: usize>(text: &mut ArrayVec<u8, N>, value: Option<I>)
+    ensures { Adds N text.old.items text.new.items (numbers.field (printed.or_dash I.text value)) }
 {
-    match r {
-        Rain::Absent => put_all(out, at, b" -"),
-        Rain::Tenths(n) => signed(out, at, n),
+    match value {
+        None => put_all(text, b" -"),
+        Some(n) => number(text, n),
     }
-}
-
-fn slot(out: &mut [u8], at: usize, e: Extreme) -> usize
-    ensures { Adds out.old at out.new result (field (printed.slot e)) }
-{
-    match e {
-        Extreme::Absent => put_all(out, at, b" -"),
-        Extreme::Slot(k) => number(out, at, k as u64),
-    }
-}
-
-// The four counts.
-fn counts(out: &mut [u8], at: usize, day: DayLine) -> usize
-    ensures { Adds out.old at out.new result (printed.counts day.read day.corrected day.filled day.missing) }
-{
-    let a = number(out, at, day.read as u64);
-    let b = number(out, a, day.corrected as u64);
-    let c = number(out, b, day.filled as u64);
-    number(out, c, day.missing as u64)
 }
 
 // The rain and the two slots.
-fn measured(out: &mut [u8], at: usize, day: DayLine) -> usize
-    ensures { Adds out.old at out.new result (printed.measured day.rain day.warmest day.coldest) }
+fn measured<const N: usize>(text: &mut ArrayVec<u8, N>, day: DayLine)
+    ensures { Adds N text.old.items text.new.items (printed.measured day.rain day.warmest day.coldest) }
 {
-    let total = day.rain;
-    let a = rain(out, at, total);
-    let warmest = day.warmest;
-    let b = slot(out, a, warmest);
-    let coldest = day.coldest;
-    slot(out, b, coldest)
+    field(text, day.rain);
+    field(text, day.warmest);
+    field(text, day.coldest);
+}
+
+// The four counts.
+fn counts<const N: usize>(text: &mut ArrayVec<u8, N>, day: DayLine)
+    ensures { Adds N text.old.items text.new.items (printed.counts day.read day.corrected day.filled day.missing) }
+{
+    number(text, day.read);
+    number(text, day.corrected);
+    number(text, day.filled);
+    number(text, day.missing);
 }
 
 // A station's line.
-pub fn day_text(out: &mut [u8; 160], station: u32, day: DayLine) -> usize
-    ensures { Written out.old out.new result (printed.day_text station day) }
+pub fn day_text(station: u32, day: DayLine) -> ArrayVec<u8, 160>
+    ensures { result.items ≡ printed.day_text station day }
 {
-    let a = put_all(out, 0, &five_digits(station));
-    let b = measured(out, a, day);
-    let c = counts(out, b, day);
-    put(out, c, b'\n')
+    let mut text = ArrayVec::new();
+    put_all(&mut text, &five_digits(station));
+    measured(&mut text, day);
+    counts(&mut text, day);
+    put(&mut text, b'\n');
+    text
 }
 
 // The last line: how many reports were refused.
-pub fn refused_text(out: &mut [u8; 160], n: u64) -> usize
-    ensures { Written out.old out.new result (printed.refused_text n) }
+pub fn refused_text(n: u64) -> ArrayVec<u8, 160>
+    ensures { result.items ≡ printed.refused_text n }
 {
-    let a = put_all(out, 0, b"refused");
-    let b = number(out, a, n);
-    put(out, b, b'\n')
+    let mut text = ArrayVec::new();
+    put_all(&mut text, b"refused");
+    number(&mut text, n);
+    put(&mut text, b'\n');
+    text
 }

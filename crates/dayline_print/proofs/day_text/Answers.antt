@@ -1,0 +1,12 @@
+-- `dayline_print::day_text` meets its contract: there is room for all of it.
+use Rattle.text_bytes.proofs.Writing.{adds_two, adds_all}
+use Rattle.dayline_print.specs.Printed.{station_text}
+use Rattle.dayline_print.proofs.Printing.{day_short}
+use Rattle.dayline_print.proofs.day_text.Goals as goal
+
+pub returns : goal.returns
+unfolding station_text
+returns c =
+    let a = c.args in
+    adds_all c.new-text.ensures (day_short a.station a.day)
+    (adds_two (rw c.five_digits.ensures at c.put_all.ensures) (adds_two c.measured.ensures (adds_two c.counts.ensures c.put.ensures)))
