@@ -4,56 +4,92 @@
 --     none, more         no piece yet, and a piece without an LF more
 --     begins             the line ends in a piece
 -- Assumes nothing.
-use mathlib.Core.Path.{◌≡◌, refl, sym, ◌∙◌, ap}
+use mathlib.Core.Path.{◌≡◌, refl, sym, ◌∙◌, ap, subst}
 use mathlib.Core.Bool.{Bool, true, false, ◌||◌}
 use mathlib.Core.List.{List, [], ◌∷◌, ◌++◌, append_assoc}
-use Prim.Native.Nat.{ℕ, suc, ◌+◌, ◌<◌, ◌≤◌}
+use Prim.Native.Nat.{ℕ, suc, ◌+◌, ◌≤◌}
 use native.Mathlib.Omega.{arith}
-use borrow.Author.Tests.{lt-ltb, le-ltb, eq-eqb, ne_eqb, ltb-true, ltb-false}
+use borrow.Author.Tests.{lt-ltb, le-ltb, ltb-true, ltb-false, eqb-true}
 use lib.Dec.{eqb, ltb}
 use lib.ListN.{length, take, length-append}
 use lib.Seq.{take_all}
+use Rattle.std.proofs.lemmas.Option.{none-some, same_Some}
+use Rattle.std.specs.Bool.{then_some}
 use Rattle.laws.proofs.Bools.{Known, is_true, is_false, known, cond_true, cond_false, or_false_left}
 use Rattle.io.specs.Counts.{IsPrefixLen}
-use Rattle.dayline_text.specs.Cuts.{index, Found}
+use Rattle.std.specs.Prelude.{◌==◌, Option, Some, None, Result, Ok, Err, IfOk}
+use Rattle.std.specs.List.{position}
+use Rattle.dayline_text.specs.Cuts.{index}
+use Rattle.dayline_text.proofs.Cuts.{index_upto, found as found_at, not_found}
 use Rattle.dayline_text.specs.FirstLine.{first_line}
 use Rattle.dayline_text.specs.Line.{goes}
 use Rattle.dayline_text.specs.declared.first_line.Line.{Line}
-use Rattle.dayline_input.specs.Input.{line_feed, line_in, reports_from, Takes, Unended, Begins}
-use Rattle.dayline_input.specs.declared.Taken.{Taken}
+use Rattle.dayline_input.specs.Input.{line_feed, line_in, reports_from, ends_in, Taken, Takes, Unended, Begins}
+use Rattle.dayline_input.specs.declared.Place.{Place}
 
 -- ---- a piece
-module _ (l r : Line) {s : List ℕ} {k : ℕ} (f : Found line_feed s k) (e : (t : List ℕ) → goes r t ≡ goes l (take k s ++ t)) where
-  line_taken : (t : List ℕ) → goes r t ≡ goes l (line_in s ++ t)
-  line_taken t = e t ∙ ap (λ (j : ℕ). goes l (take j s ++ t)) f.place
-
-  pub found : {from : ℕ} → k < length s → from ≡ k + 1 → Takes l s (record { line = r; ended = true; from = from })
-  found h p =
+module _ (l r : Line) (s : List ℕ) where
+  -- one with an LF, at k
+  pub found : {k : ℕ} → position (λ x. x == line_feed) s ≡ Some k → ((t : List ℕ) → goes r t ≡ goes l (take k s ++ t))
+      → Taken l s r (Some (record { from = k + 1; got = length s }))
+  found {k} p e =
       record {
-        line = line_taken;
-        ended = sym (ap (λ (b : Bool). b || eqb (length s) 0) here);
-        from = p ∙ sym (cond_true (ltb (index line_feed s) (length s)) (index line_feed s + 1) (length s) here ∙ ap (λ (j : ℕ). j + 1) (sym f.place));
+        line = λ t. e t ∙ ap (λ (j : ℕ). goes l (take j s ++ t)) (sym at);
+        place =
+            ap (λ (j : ℕ). Some (record { from = j; got = length s }))
+            (ap (λ (j : ℕ). j + 1) (sym at) ∙ sym (cond_true (ltb (index line_feed s) (length s)) (index line_feed s + 1) (length s) here))
+            ∙ sym (ap (λ (b : Bool). then_some (b || eqb (length s) 0) (record { from = reports_from s; got = length s })) here);
       }
     where
+      at : index line_feed s ≡ k
+      at = (found_at line_feed s p).1
+
       here : ltb (index line_feed s) (length s) ≡ true
-      here = ap (λ (j : ℕ). ltb j (length s)) (sym f.place) ∙ lt-ltb k (length s) h
+      here = lt-ltb (index line_feed s) (length s) (omega (arith, at, (found_at line_feed s p).0))
 
-  whole : {ended : Bool} {from : ℕ} → length s ≤ k → eqb (length s) 0 ≡ ended → from ≡ length s → Takes l s (record { line = r; ended = ended; from = from })
-  whole h p q =
+  -- one without
+  pub whole : position (λ x. x == line_feed) s ≡ None → ((t : List ℕ) → goes r t ≡ goes l (s ++ t))
+      → Taken l s r (then_some (eqb (length s) 0) (record { from = 0; got = length s }))
+  whole p e =
       record {
-        line = line_taken;
-        ended = sym (ap (λ (b : Bool). b || eqb (length s) 0) gone ∙ p);
-        from = q ∙ sym (cond_false (ltb (index line_feed s) (length s)) (index line_feed s + 1) (length s) gone);
+        line = λ t. e t ∙ ap (λ (x : List ℕ). goes l (x ++ t)) (sym (take_all (index line_feed s) s (omega (arith, all))));
+        place = go (known (eqb (length s) 0));
       }
     where
+      all : index line_feed s ≡ length s
+      all = not_found line_feed s p
+
       gone : ltb (index line_feed s) (length s) ≡ false
-      gone = ap (λ (j : ℕ). ltb j (length s)) (sym f.place) ∙ le-ltb k (length s) h
+      gone = le-ltb (index line_feed s) (length s) (omega (arith, all))
 
-  pub at_end : {from : ℕ} → length s ≤ k → length s ≡ 0 → from ≡ length s → Takes l s (record { line = r; ended = true; from = from })
-  at_end h z q = whole h (eq-eqb (length s) 0 z) q
+      ended : {b : Bool} → eqb (length s) 0 ≡ b → ends_in s ≡ b
+      ended e = ap (λ (b : Bool). b || eqb (length s) 0) gone ∙ e
 
-  pub goes_on : {from : ℕ} → length s ≤ k → 0 < length s → from ≡ length s → Takes l s (record { line = r; ended = false; from = from })
-  goes_on h z q = whole h (ne_eqb (length s) 0 (λ (e : length s ≡ 0). omega arith)) q
+      from : length s ≡ 0 → 0 ≡ reports_from s
+      from z = sym (cond_false (ltb (index line_feed s) (length s)) (index line_feed s + 1) (length s) gone ∙ z)
+
+      go : Known (eqb (length s) 0)
+          → then_some {T = Place} (eqb (length s) 0) (record { from = 0; got = length s }) ≡ then_some (ends_in s) (record { from = reports_from s; got = length s })
+      go (is_true t) =
+          ap (λ (b : Bool). then_some b (record { from = 0; got = length s })) t
+          ∙ ap (λ (j : ℕ). Some (record { from = j; got = length s })) (from (eqb-true (length s) 0 t))
+          ∙ sym (ap (λ (b : Bool). then_some b (record { from = reports_from s; got = length s })) (ended t))
+      go (is_false f) =
+          ap (λ (b : Bool). then_some b (record { from = 0; got = length s })) f
+          ∙ sym (ap (λ (b : Bool). then_some b (record { from = reports_from s; got = length s })) (ended f))
+
+-- what a read of n bytes gave of it
+module _ {E : Type 0} {answer : Result ℕ E} (l r : Line) (piece : List ℕ) (n : ℕ) (a : answer ≡ Ok n) (c : IsPrefixLen n piece) where
+  as_long : (q : ℕ → Option Place) → Taken l (take n piece) r (q (length (take n piece))) → Takes l answer piece r (Ok (q n))
+  as_long q k = rw a (subst (λ (m : ℕ). Taken l (take n piece) r (q m)) (sym c.1) k, refl)
+
+  pub takes_found : {k : ℕ} → position (λ x. x == line_feed) (take n piece) ≡ Some k → ((t : List ℕ) → goes r t ≡ goes l (take k (take n piece) ++ t))
+      → Takes l answer piece r (Ok (Some (record { from = k + 1; got = n })))
+  takes_found {k} p e = as_long (λ m. Some (record { from = k + 1; got = m })) (found l r (take n piece) p e)
+
+  pub takes_whole : position (λ x. x == line_feed) (take n piece) ≡ None → ((t : List ℕ) → goes r t ≡ goes l (take n piece ++ t))
+      → {o : Option Place} → o ≡ then_some {T = Place} (eqb n 0) (record { from = 0; got = n }) → Takes l answer piece r (Ok o)
+  takes_whole p e q = rw q (as_long (λ m. then_some (eqb m 0) (record { from = 0; got = m })) (whole l r (take n piece) p e))
 
 -- ---- the pieces before
 index_append : (b : ℕ) (xs ys : List ℕ) → index b xs ≡ length xs → index b (xs ++ ys) ≡ length xs + index b ys
@@ -68,24 +104,23 @@ index_append b (x ∷ xs) ys e = go (known (eqb x b)) (index_append b xs ys)
         let k : index b xs ≡ length xs = omega arith in
         cond_false (eqb x b) 0 (suc (index b (xs ++ ys))) f ∙ omega (arith, on k)
 
-index_upto : (b : ℕ) (xs : List ℕ) → index b xs ≤ length xs
-unfolding index
-index_upto b [] = omega arith
-index_upto b (x ∷ xs) = go (known (eqb x b)) (index_upto b xs)
-  where
-    go : Known (eqb x b) → index b xs ≤ length xs → index b (x ∷ xs) ≤ suc (length xs)
-    go (is_true t) on = let h : index b (x ∷ xs) ≡ 0 = cond_true (eqb x b) 0 (suc (index b xs)) t in omega arith
-    go (is_false f) on = let h : index b (x ∷ xs) ≡ suc (index b xs) = cond_false (eqb x b) 0 (suc (index b xs)) f in omega arith
-
 -- nothing is read
 pub none : (l : Line) → ((t : List ℕ) → goes l t ≡ first_line t) → Unended l
 unfolding index
 none l e = record { bytes = []; whole = refl; line = e }
 
+unplaced : (b : Bool) (p : Place) → None ≡ then_some b p → b ≡ false
+unplaced true p e = absurd (none-some p e)
+unplaced false p e = refl
+
+placed : (b : Bool) (p q : Place) → Some q ≡ then_some b p → (b ≡ true) × (p ≡ q)
+placed true p q e = (refl, same_Some p q (sym e))
+placed false p q e = absurd (none-some q (sym e))
+
 -- a piece more, in which the line does not end
-module _ (l : Line) (s : List ℕ) (r : Taken) (u : Unended l) (k : Takes l s r) where
-  pub more : r.ended ≡ false → Unended r.line
-  more e =
+module _ (l r : Line) (s : List ℕ) (u : Unended l) where
+  goes_on : Taken l s r None → Unended r
+  goes_on k =
       record {
         bytes = u.bytes ++ s;
         whole = index_append line_feed u.bytes s u.whole ∙ omega (arith, all, length-append u.bytes s);
@@ -96,7 +131,7 @@ module _ (l : Line) (s : List ℕ) (r : Taken) (u : Unended l) (k : Takes l s r)
       }
     where
       late : ltb (index line_feed s) (length s) ≡ false
-      late = or_false_left _ _ (sym k.ended ∙ e)
+      late = or_false_left _ _ (unplaced (ends_in s) _ k.place)
 
       all : index line_feed s ≡ length s
       all = omega (arith, ltb-false (index line_feed s) (length s) late, index_upto line_feed s)
@@ -114,27 +149,31 @@ from_upto s = go (known (ltb (index line_feed s) (length s)))
     go (is_false f) = let h : reports_from s ≡ length s = cond_false (ltb (index line_feed s) (length s)) (index line_feed s + 1) (length s) f in omega arith
 
 -- the line ends in this piece
-pub begins : (l : Line) (piece : List ℕ) (n : ℕ) (r : Taken) (failed : Bool) → Unended l → IsPrefixLen n piece → Takes l (take n piece) r → r.ended ≡ true
-    → Begins piece (record { line = r.line; from = r.from; got = n; failed = failed })
-begins l piece n r failed u c k e =
-    record {
-      placed = record { start = omega (arith, from_upto (take n piece), k.from, c.1); upto = c.0 };
+begins_in : (l r : Line) (piece : List ℕ) (n : ℕ) (p : Place) → Unended l → IsPrefixLen n piece → Taken l (take n piece) r (Some p)
+    → Begins piece (record { line = r; place = p })
+begins_in l r piece n p u c k =
+    let h = placed (ends_in s) (record { from = reports_from s; got = length s }) p k.place in
+    let q : record { from = reports_from s; got = n } ≡ p = ap (λ (m : ℕ). record { from = reports_from s; got = m }) c.1 ∙ h.1 in
+    subst (λ (q : Place). Begins piece (record { line = r; place = q })) q
+    (record {
+      placed = record { start = omega (arith, from_upto s, c.1); upto = c.0 };
       bytes = u.bytes;
       whole = u.whole;
-      line = λ t. k.line t ∙ u.line (line_in (take n piece) ++ t);
-      ended = λ _. sym k.ended ∙ e;
-      from = k.from;
-    }
-
--- the input could not be read to the line's end
-pub fails : (l : Line) (piece : List ℕ) → Unended l → Begins piece (record { line = l; from = 0; got = 0; failed = true })
-unfolding index
-fails l piece u =
-    record {
-      placed = record { start = omega arith; upto = omega arith };
-      bytes = u.bytes;
-      whole = u.whole;
-      line = u.line;
-      ended = λ h. refl;
+      line = λ t. k.line t ∙ u.line (line_in s ++ t);
+      ended = h.0;
       from = refl;
-    }
+    })
+  where
+    s : List ℕ
+    s = take n piece
+
+-- ---- what one read more leaves
+module _ {E : Type 0} (l r : Line) (piece : List ℕ) where
+  pub more : (answer : Result ℕ E) → IfOk answer (λ n. IsPrefixLen n piece) → Unended l → Takes l answer piece r (Ok None) → Unended r
+  more (Ok n) c u k = goes_on l r (take n piece) u k.0
+  more (Err e) c u k = absurd cc
+
+  pub begins : (p : Place) (answer : Result ℕ E) → IfOk answer (λ n. IsPrefixLen n piece) → Unended l → Takes l answer piece r (Ok (Some p))
+      → Begins piece (record { line = r; place = p })
+  begins p (Ok n) c u k = begins_in l r piece n p u c k.0
+  begins p (Err e) c u k = absurd cc
