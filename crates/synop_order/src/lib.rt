@@ -4,7 +4,7 @@
 ghost use Rattle.std.specs.Prelude.{◌≡◌};
 ghost use Rattle.synop_order.specs.Places as places;
 
-use synop_text::Group;
+use synop_text::{Characters, Group};
 
 // Where in a report a group stands: what it was taken for.
 #[derive(Clone, Copy)]
@@ -37,19 +37,7 @@ pub enum Place {
 pub fn begun(p: Place) -> bool
     ensures { result ≡ places.begun p }
 {
-    match p {
-        Place::Start => false,
-        Place::Letters => true,
-        Place::Time => true,
-        Place::Station => true,
-        Place::Nothing => true,
-        Place::Visibility => true,
-        Place::Wind(_) => true,
-        Place::Gale => true,
-        Place::One(_) => true,
-        Place::Later(_, _) => true,
-        Place::Wrong => true,
-    }
+    !matches!(p, Place::Start)
 }
 
 #[tactic(auto, unfolding(crate::specs::Places::aaxx_after))]
@@ -66,17 +54,8 @@ fn nil_after(p: Place) -> Place
     ensures { result ≡ places.nil_after p }
 {
     match p {
-        Place::Start => Place::Wrong,
-        Place::Letters => Place::Wrong,
-        Place::Time => Place::Wrong,
         Place::Station => Place::Nothing,
-        Place::Nothing => Place::Wrong,
-        Place::Visibility => Place::Wrong,
-        Place::Wind(_) => Place::Wrong,
-        Place::Gale => Place::Wrong,
-        Place::One(_) => Place::Wrong,
-        Place::Later(_, _) => Place::Wrong,
-        Place::Wrong => Place::Wrong,
+        _ => Place::Wrong,
     }
 }
 
@@ -85,17 +64,9 @@ fn section_of(p: Place) -> u8
     ensures { result ≡ places.section_of p }
 {
     match p {
-        Place::Start => 0,
-        Place::Letters => 0,
-        Place::Time => 0,
-        Place::Station => 0,
-        Place::Nothing => 0,
-        Place::Visibility => 0,
-        Place::Wind(_) => 1,
-        Place::Gale => 1,
-        Place::One(_) => 1,
+        Place::Wind(_) | Place::Gale | Place::One(_) => 1,
         Place::Later(n, _) => n,
-        Place::Wrong => 0,
+        _ => 0,
     }
 }
 
@@ -113,55 +84,53 @@ fn opened(n: u8, m: u8) -> Place
 
 // A group of section 1 after one that begins with `last`.
 #[tactic(auto, unfolding(crate::specs::Places::ordered))]
-fn ordered(last: u8, a: u8, b: u8, c: u8) -> Place
-    ensures { result ≡ places.ordered last a b c }
+fn ordered(last: u8, x: Characters) -> Place
+    ensures { result ≡ places.ordered last x }
 {
-    let second = (a == b'2') & (b == b'2') & (c == b'2');
+    let second = (x.a == b'2') & (x.b == b'2') & (x.c == b'2');
     if second {
         return Place::Later(2, false);
     }
-    if last < a {
-        return Place::One(a);
+    if last < x.a {
+        return Place::One(x.a);
     }
     Place::Wrong
 }
 
 // The group right after Nddff.
 #[tactic(auto, unfolding(crate::specs::Places::first_of_one))]
-fn first_of_one(strong: bool, a: u8, b: u8, c: u8) -> Place
-    ensures { result ≡ places.first_of_one strong a b c }
+fn first_of_one(strong: bool, x: Characters) -> Place
+    ensures { result ≡ places.first_of_one strong x }
 {
-    let gale = strong & (a == b'0') & (b == b'0');
+    let gale = strong & (x.a == b'0') & (x.b == b'0');
     if gale {
         return Place::Gale;
     }
-    ordered(b'0', a, b, c)
+    ordered(b'0', x)
 }
 
-// Whether a 55 run is under way after a group that begins with a and b.
-fn runs(run: bool, a: u8, b: u8) -> bool
-    ensures { result ≡ places.runs run a b }
+// Whether a 55 run is under way after a group of a later section.
+fn runs(run: bool, x: Characters) -> bool
+    ensures { result ≡ places.runs run x }
 {
-    let begins = (a == b'5') & (b == b'5');
-    let ends = (b'7' <= a) & (a <= b'9');
+    let begins = (x.a == b'5') & (x.b == b'5');
+    let ends = (b'7' <= x.a) & (x.a <= b'9');
     begins | (run & !ends)
 }
 
-fn five_after(p: Place, a: u8, b: u8, c: u8, d: u8, e: u8) -> Place
-    ensures { result ≡ places.five_after p a b c d e }
+fn five_after(p: Place, x: Characters) -> Place
+    ensures { result ≡ places.five_after p x }
 {
     match p {
-        Place::Start => Place::Wrong,
         Place::Letters => Place::Time,
         Place::Time => Place::Station,
         Place::Station => Place::Visibility,
-        Place::Nothing => Place::Wrong,
-        Place::Visibility => Place::Wind((d == b'9') & (e == b'9')),
-        Place::Wind(strong) => first_of_one(strong, a, b, c),
-        Place::Gale => ordered(b'0', a, b, c),
-        Place::One(last) => ordered(last, a, b, c),
-        Place::Later(n, run) => Place::Later(n, runs(run, a, b)),
-        Place::Wrong => Place::Wrong,
+        Place::Visibility => Place::Wind((x.d == b'9') & (x.e == b'9')),
+        Place::Wind(strong) => first_of_one(strong, x),
+        Place::Gale => ordered(b'0', x),
+        Place::One(last) => ordered(last, x),
+        Place::Later(n, run) => Place::Later(n, runs(run, x)),
+        Place::Start | Place::Nothing | Place::Wrong => Place::Wrong,
     }
 }
 
@@ -174,26 +143,14 @@ pub fn next(p: Place, g: Group) -> Place
         Group::Aaxx => aaxx_after(p),
         Group::Nil => nil_after(p),
         Group::Section(m) => opened(section_of(p), m),
-        Group::Five(a, b, c, d, e) => five_after(p, a, b, c, d, e),
+        Group::Five(x) => five_after(p, x),
     }
 }
 
 pub fn is_nil(p: Place) -> bool
     ensures { result ≡ places.is_nil p }
 {
-    match p {
-        Place::Start => false,
-        Place::Letters => false,
-        Place::Time => false,
-        Place::Station => false,
-        Place::Nothing => true,
-        Place::Visibility => false,
-        Place::Wind(_) => false,
-        Place::Gale => false,
-        Place::One(_) => false,
-        Place::Later(_, _) => false,
-        Place::Wrong => false,
-    }
+    matches!(p, Place::Nothing)
 }
 
 // Whether a report may end with a group at this place.
