@@ -1,68 +1,66 @@
--- Laws of the parts: their numbers are below their count, what stands in a 55 run is none that is read, and the first of three is the first of
--- the first two and the third.
+-- Laws of the parts: what stands in a 55 run is none that is read; and how the parts that are kept go on by one group.
 -- Assumes nothing.
-use mathlib.Core.Path.{◌≡◌, refl}
-use mathlib.Core.Bool.{Bool, true, false, not, cond, ◌&&◌}
+use mathlib.Core.Path.{◌≡◌, refl, sym, ◌∙◌, subst}
+use mathlib.Core.Bool.{true}
+use mathlib.Core.List.{List}
 use Prim.Native.Nat.{ℕ, ◌<◌}
 use lib.Dec.{eqb, lit<}
-use Rattle.laws.proofs.Bools.{cond_false, and_false_right}
+use lib.ListN.{length, get_or, length-set}
+use lib.Seq.{get_or-set_same, get_or-set_other}
+use borrow.Author.Tests.{eqb-true, eqb-false}
+use Rattle.std.specs.Prelude.{Option, Some, None}
+use Rattle.std.specs.Option.{option_or}
+use Rattle.laws.proofs.Bools.{Known, is_true, is_false, known, cond_false, and_false_right}
+use Rattle.synop_text.specs.declared.Characters.{Characters}
 use Rattle.synop_text.specs.declared.Group.{Group}
-use Rattle.synop_text.specs.declared.Group.TheVariants.{Other, Aaxx, Nil, Section, Five}
-use Rattle.synop_order.specs.declared.Place.{Place}
-use Rattle.synop_order.specs.declared.Place.TheVariants.{Start, Letters, Time, Station, Nothing, Visibility, Wind, Gale, One, Later, Wrong}
-use Rattle.synop_parts.specs.Parts.{unread, count, of_one, of_three, in_three, of_later, part_of, first_of}
-
-either : (b : Bool) {m n : ℕ} → m < count → n < count → cond b m n < count
-either true h l = h
-either false h l = l
-
-one_below : (d : ℕ) → of_one d < count
-unfolding of_one
-one_below d = either (eqb d 49) (lit< tt) (either (eqb d 50) (lit< tt) (either (eqb d 52) (lit< tt) (either (eqb d 54) (lit< tt) (lit< tt))))
-
-three_below : (a : ℕ) → of_three a < count
-unfolding of_three
-three_below a = either (eqb a 49) (lit< tt) (either (eqb a 50) (lit< tt) (either (eqb a 54) (lit< tt) (lit< tt)))
-
-in_three_below : (g : Group) → in_three g < count
-in_three_below Other = lit< tt
-in_three_below Aaxx = lit< tt
-in_three_below Nil = lit< tt
-in_three_below (Section m) = lit< tt
-in_three_below (Five a b c d e) = three_below a
-
-later_below : (n : ℕ) (run : Bool) (g : Group) → of_later n run g < count
-unfolding of_later
-later_below n run g = either (eqb n 3 && not run) (in_three_below g) (lit< tt)
+use Rattle.synop_parts.specs.declared.Part.{Part}
+use Rattle.synop_parts.specs.declared.Part.TheVariants as which
+use Rattle.synop_parts.specs.Parts.{number, count, of_later, keep, only, part}
 
 -- "After a group beginning 55, groups with first character 0 to 6 are skipped": a 6 there is no R, and none that is present
-pub run_unread : (n : ℕ) (g : Group) → of_later n true g ≡ unread
+pub run_unread : (n : ℕ) (g : Group) → of_later n true g ≡ None
 unfolding of_later
 run_unread n g = search (cond_false, and_false_right)
 
-pub part_below : (p : Place) (g : Group) → part_of p g < count
-part_below Start g = lit< tt
-part_below Letters g = lit< tt
-part_below Time g = lit< tt
-part_below Station g = lit< tt
-part_below Nothing g = lit< tt
-part_below Visibility g = lit< tt
-part_below (Wind strong) g = lit< tt
-part_below Gale g = lit< tt
-part_below (One d) g = one_below d
-part_below (Later n run) g = later_below n run g
-part_below Wrong g = lit< tt
+number_below : (q : Part) → number q < count
+number_below which.Time = lit< tt
+number_below which.Station = lit< tt
+number_below which.Visibility = lit< tt
+number_below which.Wind = lit< tt
+number_below which.Gale = lit< tt
+number_below which.Temperature = lit< tt
+number_below which.DewPoint = lit< tt
+number_below which.Pressure = lit< tt
+number_below which.Rain = lit< tt
+number_below which.Maximum = lit< tt
+number_below which.Minimum = lit< tt
+number_below which.LaterRain = lit< tt
 
-pub first_assoc : (f g h : Group) → first_of f (first_of g h) ≡ first_of (first_of f g) h
-first_assoc Other g h = refl
-first_assoc Aaxx g h = refl
-first_assoc Nil g h = refl
-first_assoc (Section m) g h = refl
-first_assoc (Five a b c d e) g h = refl
+pub or_assoc : {A : Type 0} (x y z : Option A) → option_or x (option_or y z) ≡ option_or (option_or x y) z
+or_assoc None y z = refl
+or_assoc (Some a) y z = refl
 
-pub first_none : (f : Group) → first_of f Other ≡ f
-first_none Other = refl
-first_none Aaxx = refl
-first_none Nil = refl
-first_none (Section m) = refl
-first_none (Five a b c d e) = refl
+pub or_none : {A : Type 0} (x : Option A) → option_or x None ≡ x
+or_none None = refl
+or_none (Some a) = refl
+
+-- ---- the parts that are kept, after one group more, which is the part o and has the characters x
+pub keep_long : (kept : List (Option Characters)) (o : Option Part) (x : Option Characters) → length (keep kept o x) ≡ length kept
+keep_long kept None x = refl
+keep_long kept (Some q) x = length-set kept (number q) (option_or (part kept q) x)
+
+pub keep_at : (kept : List (Option Characters)) (o : Option Part) (x : Option Characters) (j : ℕ) → length kept ≡ count
+    → get_or (keep kept o x) j None ≡ option_or (get_or kept j None) (only j o x)
+keep_at kept None x j long = sym (or_none (get_or kept j None))
+keep_at kept (Some q) x j long = by (known (eqb (number q) j))
+  where
+    new : Option Characters
+    new = option_or (part kept q) x
+
+    by : Known (eqb (number q) j) → get_or (keep kept (Some q) x) j None ≡ option_or (get_or kept j None) (only j (Some q) x)
+    by (is_true e) =
+        let same : number q ≡ j = eqb-true (number q) j e in
+        rw (e, ← same) (get_or-set_same kept (number q) new None (subst (λ (n : ℕ). number q < n) (sym long) (number_below q)))
+    by (is_false e) =
+        rw e
+        (get_or-set_other kept (number q) j new None (λ r. eqb-false (number q) j e (sym r)) ∙ sym (or_none (get_or kept j None)))
