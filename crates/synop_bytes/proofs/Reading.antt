@@ -2,46 +2,50 @@
 -- Assumes nothing.
 use mathlib.Core.Path.{◌≡◌, refl, sym, ◌∙◌, ap}
 use mathlib.Core.Bool.{Bool, true, false, ◌&&◌, and_assoc, and-true}
-use mathlib.Core.List.{List, ◌∷◌}
-use Prim.Native.Nat.{ℕ, suc, ◌+◌, ◌-◌, ◌<◌, ◌≤◌}
+use mathlib.Core.List.{List, [], ◌∷◌}
+use Prim.Native.Nat.{ℕ, suc, ◌+◌, ◌<◌, ◌≤◌}
 use native.Mathlib.Numerals.{add-one}
 use native.Mathlib.Omega.{arith}
-use lib.Dec.{eqb, eqb-suc-suc}
-use lib.ListN.{length, drop, get_or, length-drop, drop_of_length-le}
+use lib.Dec.{eqb, ltb}
+use lib.ListN.{length, drop, get_or, drop_of_length-le}
 use lib.Seq.{drop-cons}
-use borrow.Author.Tests.{eq-eqb, ne_eqb}
-use Rattle.laws.proofs.Bools.{cond_true}
+use Rattle.std.specs.Prelude.{None, Some}
+use Rattle.std.specs.List.{position, position_or_len}
+use borrow.Author.Tests.{ne_eqb, ltb-false}
+use Rattle.laws.proofs.Bools.{is_true, is_false, known}
+use Rattle.laws.proofs.Offset.{eqb_agrees}
 use Rattle.synop_bytes.specs.Bytes.{ended, is_known, check2}
 
 -- what is left from i on is the byte at i and what is left after it
 step : (s : List ℕ) (i : ℕ) → i < length s → drop i s ≡ get_or s i 0 ∷ drop (i + 1) s
 step s i h = drop-cons s i 0 h ∙ ap (λ (k : ℕ). get_or s i 0 ∷ drop k s) (sym (add-one i))
 
--- ---- the first `=`: none of the bytes before i is one
-pub record Unended (s : List ℕ) (i : ℕ) : Type 0 where
-  pub upto : i ≤ length s
-  pub same : ended s ≡ ended (drop i s)
+-- ---- the first `=`, where the code finds one
+abbrev end_of : List ℕ → ℕ
+end_of s = position_or_len (λ b. eqb b 61) s
 
-pub unended_none : (s : List ℕ) → Unended s 0
-unended_none s = record { upto = omega arith; same = refl }
+ended_at : (s : List ℕ) → ended s ≡ eqb (end_of s + 1) (length s)
+unfolding ended
+ended_at [] = refl
+ended_at (b ∷ s) =
+    elim (known (eqb b 61)) [
+      | is_true t ↦ rw t (eqb_agrees 1 (suc (length s)) (length s) 0 (λ h. omega arith) (λ h. omega arith))
+      | is_false f ↦ rw f (ended_at s ∙ eqb_agrees (1 + end_of s + 1) (suc (length s)) (end_of s + 1) (length s) (λ h. omega arith) (λ h. omega arith))
+    ]
 
-module _ {s : List ℕ} {i : ℕ} where
-  pub unended_more : Unended s i → i < length s → (get_or s i 0 ≡ 61 → ⊥) → Unended s (i + 1)
-  unfolding ended
-  unended_more v h n = record { upto = omega arith; same = v.same ∙ ap ended (step s i h) ∙ rw (ne_eqb (get_or s i 0) 61 n) }
+pub ended_some : (s : List ℕ) (i : ℕ) → position (λ b. eqb b 61) s ≡ Some i → ended s ≡ eqb (i + 1) (length s)
+ended_some s i e =
+    elim (known (ltb (end_of s) (length s))) [
+      | is_true t ↦ let q : Some (end_of s) ≡ Some i = rw t at e in let p : end_of s ≡ i = cc in ended_at s ∙ ap (λ (n : ℕ). eqb (n + 1) (length s)) p
+      | is_false f ↦ let q : None ≡ Some i = rw f at e in let z : ◌≡◌ {A = ℕ} 0 1 = cc in absurd (omega arith)
+    ]
 
-  pub ended_here : Unended s i → i < length s → get_or s i 0 ≡ 61 → eqb (length s - i) 1 ≡ ended s
-  unfolding ended
-  ended_here v h e =
-      ap (λ (n : ℕ). eqb n 1) long ∙ eqb-suc-suc (length (drop (i + 1) s)) 0 ∙ sym (cond_true _ _ _ (eq-eqb (get_or s i 0) 61 e))
-      ∙ ap ended (sym (step s i h)) ∙ sym v.same
-    where
-      long : length s - i ≡ suc (length (drop (i + 1) s))
-      long = rw (length-drop (i + 1) s) (omega arith)
-
-  pub ended_not : Unended s i → length s ≤ i → false ≡ ended s
-  unfolding ended
-  ended_not v h = sym (v.same ∙ ap ended (drop_of_length-le s h))
+pub ended_none : (s : List ℕ) → position (λ b. eqb b 61) s ≡ None → ended s ≡ false
+ended_none s e =
+    elim (known (ltb (end_of s) (length s))) [
+      | is_true t ↦ let q : Some (end_of s) ≡ None = rw t at e in let z : ◌≡◌ {A = ℕ} 0 1 = cc in absurd (omega arith)
+      | is_false f ↦ ended_at s ∙ ne_eqb (end_of s + 1) (length s) (λ h. omega (arith, ltb-false (end_of s) (length s) f))
+    ]
 
 -- ---- the bytes before i are known or not
 pub record Knowing (s : List ℕ) (known : Bool) (i : ℕ) : Type 0 where

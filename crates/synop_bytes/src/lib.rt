@@ -1,8 +1,12 @@
 // Document 01's checks 1 and 2, of the bytes of a text.
 #![tactic(auto)]
 
-ghost use Rattle.std.specs.Prelude.{◌≡◌};
+ghost use Rattle.std.specs.Prelude.{◌≡◌, ◌==◌};
+ghost use Rattle.std.specs.List.{position};
+ghost use Rattle.refusals.specs.Refusals.{number_or_zero};
 ghost use Rattle.synop_bytes.specs.Bytes as bytes;
+
+use refusals::Refusal;
 
 #[tactic(auto, unfolding(crate::specs::Bytes::is_known))]
 fn is_known(b: u8) -> bool
@@ -14,18 +18,22 @@ fn is_known(b: u8) -> bool
     digit | letter | blank | (b == b'/') | (b == b'=')
 }
 
+// Where the first `=` stands.
+fn first_end(s: &[u8]) -> Option<usize>
+    ensures { result ≡ position (λ b. b == 61) s.now }
+{
+    s.iter().position(|&b| b == b'=')
+}
+
 // Whether the text ends with its first `=`.
+#[tactic(auto, using(crate::proofs::Reading::ended_some, crate::proofs::Reading::ended_none))]
 fn is_ended(s: &[u8]) -> bool
     ensures { result ≡ bytes.ended s.now }
 {
-    let mut i = 0;
-    while i < s.len() {
-        if s[i] == b'=' {
-            return s.len() - i == 1;
-        }
-        i += 1;
+    match first_end(s) {
+        Some(end) => end + 1 == s.len(),
+        None => false,
     }
-    false
 }
 
 // Whether all its bytes are known. The loop looks at all of them: without a way out of it, it takes several bytes at a time.
@@ -33,27 +41,22 @@ fn are_known(s: &[u8]) -> bool
     ensures { result ≡ bytes.check2 s.now }
 {
     let mut known = true;
-    let mut i = 0;
-    while i < s.len() {
-        known = known & is_known(s[i]);
-        i += 1;
+    for &b in s {
+        known &= is_known(b);
     }
     known
 }
 
-// The number of the first of checks 1 and 2 that fails, or 0.
+// Which of checks 1 and 2 fails first, if one does.
 #[tactic(auto, unfolding(crate::specs::Bytes::of_bytes, crate::specs::Bytes::check1))]
-pub fn of_bytes(s: &[u8]) -> u8
-    ensures { result ≡ bytes.of_bytes s.now }
+pub fn of_bytes(s: &[u8]) -> Result<(), Refusal>
+    ensures { number_or_zero result ≡ bytes.of_bytes s.now }
 {
-    if 512 < s.len() {
-        return 1;
-    }
-    if !is_ended(s) {
-        return 1;
+    if 512 < s.len() || !is_ended(s) {
+        return Err(Refusal::Unended);
     }
     if !are_known(s) {
-        return 2;
+        return Err(Refusal::UnknownByte);
     }
-    0
+    Ok(())
 }
