@@ -1,2 +1,0 @@
--- Laws of amounts of rain.
-pub mod Amounts
