@@ -1,14 +1,13 @@
 -- How large the number is that digits give.
 -- Assumes nothing.
-use mathlib.Core.Path.{◌≡◌, sym, subst}
-use Prim.Native.Nat.{ℕ, ◌*◌, ◌<◌, ◌≤◌}
+use mathlib.Core.Path.{◌≡◌, subst}
+use Prim.Native.Nat.{ℕ, ◌*◌, ◌<◌}
 use native.Mathlib.Omega.{arith}
 use lib.Dec.{leb}
 use borrow.Author.Tests.{leb-true}
+use Rattle.std.specs.Prelude.{Option, None, Some}
 use Rattle.laws.proofs.Bools.{by_cond}
 use Rattle.synop_codes.specs.Tables.{char}
-use Rattle.synop_figures.specs.declared.Number.{Number}
-use Rattle.synop_figures.specs.declared.Number.TheVariants.{Slash, Digits}
 use Rattle.synop_figures.specs.Digits.{Below, digit, joined, two, three, four}
 
 pub digit_below : (c : ℕ) → Below 10 (digit c)
@@ -17,10 +16,10 @@ digit_below c =
     (λ _. tt)
 
 -- one digit more makes the bound ten times as large
-pub joined_below : (k : ℕ) (m d : Number) → Below k m → Below 10 d → Below (10 * k) (joined m d)
-joined_below k Slash d h l = tt
-joined_below k (Digits n) Slash h l = tt
-joined_below k (Digits n) (Digits x) h l = omega arith
+pub joined_below : (k : ℕ) (m d : Option ℕ) → Below k m → Below 10 d → Below (10 * k) (joined m d)
+joined_below k None d h l = tt
+joined_below k (Some n) None h l = tt
+joined_below k (Some n) (Some x) h l = omega arith
 
 pub two_below : (a b : ℕ) → Below 100 (two a b)
 unfolding two
@@ -34,14 +33,18 @@ pub four_below : (a b c d : ℕ) → Below 10000 (four a b c d)
 unfolding four
 four_below a b c d = joined_below 1000 (three a b c) (digit d) (three_below a b c) (digit_below d)
 
--- a wider bound, of what a callee answered for m
-pub of_callee : (k l : ℕ) → k ≤ l → {r : Number} (m : Number) → Below k m → r ≡ m → Below l r
-of_callee k l w m h e = subst (Below l) (sym e) (wider m h)
-  where
-    wider : (m : Number) → Below k m → Below l m
-    wider Slash h = tt
-    wider (Digits n) h = omega arith
-
 -- the bound, of the number that m is
-pub of_number : (k : ℕ) {m : Number} {n : ℕ} → Below k m → m ≡ Digits n → n < k
+pub of_number : (k : ℕ) {m : Option ℕ} {n : ℕ} → Below k m → m ≡ Some n → n < k
 of_number k h e = subst (Below k) e h
+
+pub digit_some : (c n : ℕ) → digit c ≡ Some n → n < 10
+digit_some c n e = of_number 10 (digit_below c) e
+
+pub two_some : (a b n : ℕ) → two a b ≡ Some n → n < 100
+two_some a b n e = of_number 100 (two_below a b) e
+
+pub three_some : (a b c n : ℕ) → three a b c ≡ Some n → n < 1000
+three_some a b c n e = of_number 1000 (three_below a b c) e
+
+pub four_some : (a b c d n : ℕ) → four a b c d ≡ Some n → n < 10000
+four_some a b c d n e = of_number 10000 (four_below a b c d) e
