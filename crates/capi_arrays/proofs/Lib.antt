@@ -1,3 +1,2 @@
--- Laws that the proofs of the arrays cite.
-pub mod Signed
+-- What the arrays are given: small numbers, which the proofs of the calls cite.
 pub mod Within

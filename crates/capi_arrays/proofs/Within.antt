@@ -1,7 +1,7 @@
 -- A day line's counts are at most 81, and its slots below 8.
 -- Assumes nothing.
 use mathlib.Core.List.{List}
-use mathlib.Core.Option.{Option, none, some}
+use Rattle.std.specs.Prelude.{Option, None, Some}
 use Prim.Native.Nat.{ℕ, ◌<◌}
 use native.Mathlib.Omega.{arith}
 use Rattle.quality.specs.declared.head.SlotHead.{SlotHead}
@@ -11,7 +11,6 @@ use Rattle.daily.specs.Counts.{count}
 use Rattle.daily.proofs.Counting.{count_most}
 use Rattle.daily.proofs.Ties.{Below, warmest_below, coldest_below}
 use Rattle.daily.specs.Extremes.{warmest, coldest}
-use Rattle.daily.specs.Coded.{slot_of}
 use Rattle.daily.specs.Line.{day_line}
 use Rattle.capi_arrays.specs.Arrays.{Near, Small, line_of}
 
@@ -20,9 +19,9 @@ count_small : (s : ℕ) (sheet : List (List Cell)) → count s sheet < 82
 count_small s sheet = omega (arith, count_most s sheet)
 
 -- ---- slots
-near : (o : Option ℕ) → Below 8 o → Near (slot_of o)
-near none h = tt
-near (some k) h = h
+near : (o : Option ℕ) → Below 8 o → Near o
+near None h = tt
+near (Some k) h = h
 
 -- ---- the day line
 pub line_small : (hs : List SlotHead) (s : List (List Cell)) → Small (line_of (day_line hs s))

@@ -1,13 +1,11 @@
 -- A day line as arrays of numbers: what the call day writes into the caller's arrays.
 -- Assumes nothing.
-use Rattle.std.specs.Prelude.{List, [], ◌∷◌, ◌<◌, ℤ, pos, negsuc, Float}
+use Rattle.std.specs.Prelude.{List, [], ◌∷◌, ◌<◌, ℕ, ℤ, pos, negsuc, Float, Option, None, Some}
 use Rattle.std.specs.Float.{binary64}
 use Rattle.std.specs.Float.Ieee.{of_bits}
-use Rattle.daily.specs.Coded.{mean_of, rain_of, slot_of}
+use Rattle.daily.specs.Coded.{mean_of}
 use Rattle.daily.specs.Line as Line
 use Rattle.daily.specs.declared.Mean.{Mean}
-use Rattle.daily.specs.declared.Rain.{Rain}
-use Rattle.daily.specs.declared.Extreme.{Extreme}
 use Rattle.daily.specs.declared.DayLine.{DayLine}
 
 -- the code's day line that says the paper's
@@ -19,9 +17,9 @@ line_of d = record {
   wind = mean_of d.wind;
   cloud = mean_of d.cloud;
   vapour = mean_of d.vapour;
-  rain = rain_of d.rain;
-  warmest = slot_of d.warmest;
-  coldest = slot_of d.coldest;
+  rain = d.rain;
+  warmest = d.warmest;
+  coldest = d.coldest;
   read = d.read;
   corrected = d.corrected;
   filled = d.filled;
@@ -41,18 +39,18 @@ kind (Mean.Read x) = pos 1
 kind (Mean.Mended x) = pos 2
 
 -- whether there is a rain, and the rain, 0 where there is none
-abbrev pub present : Rain → ℤ
-present Rain.Absent = pos 0
-present (Rain.Tenths z) = pos 1
+abbrev pub present : Option ℤ → ℤ
+present None = pos 0
+present (Some z) = pos 1
 
-abbrev pub tenths : Rain → ℤ
-tenths Rain.Absent = pos 0
-tenths (Rain.Tenths z) = z
+abbrev pub tenths : Option ℤ → ℤ
+tenths None = pos 0
+tenths (Some z) = z
 
 -- a slot, −1 where it is absent
-abbrev pub slot_number : Extreme → ℤ
-slot_number Extreme.Absent = negsuc 0
-slot_number (Extreme.Slot k) = pos k
+abbrev pub slot_number : Option ℕ → ℤ
+slot_number None = negsuc 0
+slot_number (Some k) = pos k
 
 -- the means' floats: T, D, P, W, C, vapour
 unfoldable pub floats : DayLine → List Float
@@ -67,9 +65,9 @@ numbers l =
 
 -- ---- what the functions are given
 -- one of the slots 0 to 7, if any
-abbrev pub Near : Extreme → Type 0
-Near Extreme.Absent = Unit {0}
-Near (Extreme.Slot k) = k < 8
+abbrev pub Near : Option ℕ → Type 0
+Near None = Unit {0}
+Near (Some k) = k < 8
 
 -- counts of at most 81 cells, and slots
 pub record Small (l : DayLine) : Type 0 where

@@ -4,110 +4,86 @@
 ghost use Rattle.std.specs.Prelude.{◌≡◌};
 ghost use Rattle.capi_arrays.specs.Arrays.{float, kind, present, tenths, slot_number, floats, numbers, Near, Small};
 
-use daily::{DayLine, Extreme, Mean, Rain};
-use laws::difference;
+use daily::{DayLine, Mean};
 
 // A mean's float, 0.0 where it is absent.
-fn mean_float(m: Mean) -> f64
-    ensures { result ≡ float m }
+fn mean_float(mean: Mean) -> f64
+    ensures { result ≡ float mean }
 {
-    match m {
+    match mean {
         Mean::Absent => 0.0,
-        Mean::Read(x) => x,
-        Mean::Mended(x) => x,
+        Mean::Read(x) | Mean::Mended(x) => x,
     }
 }
 
 // A mean's kind: 0 absent, 1 read, 2 mended.
-fn mean_kind(m: Mean) -> i32
-    ensures { result ≡ kind m }
+fn mean_kind(mean: Mean) -> i32
+    ensures { result ≡ kind mean }
 {
-    match m {
+    match mean {
         Mean::Absent => 0,
-        Mean::Read(x) => 1,
-        Mean::Mended(x) => 2,
+        Mean::Read(_) => 1,
+        Mean::Mended(_) => 2,
     }
 }
 
 // Whether there is a rain.
-fn rain_present(r: Rain) -> i32
-    ensures { result ≡ present r }
+fn rain_present(rain: Option<i32>) -> i32
+    ensures { result ≡ present rain }
 {
-    match r {
-        Rain::Absent => 0,
-        Rain::Tenths(z) => 1,
-    }
+    i32::from(rain.is_some())
 }
 
 // The rain, 0 where there is none.
-fn rain_tenths(r: Rain) -> i32
-    ensures { result ≡ tenths r }
+fn rain_tenths(rain: Option<i32>) -> i32
+    ensures { result ≡ tenths rain }
 {
-    match r {
-        Rain::Absent => 0,
-        Rain::Tenths(z) => z,
-    }
+    rain.unwrap_or(0)
 }
 
 // A slot, -1 where it is absent.
-fn slot_number(e: Extreme) -> i32
-    requires { Near e }
-    ensures { result ≡ slot_number e }
+fn slot_number(slot: Option<usize>) -> i32
+    requires { Near slot }
+    ensures { result ≡ slot_number slot }
 {
-    match e {
-        Extreme::Absent => -1,
-        Extreme::Slot(k) => difference(k as u32, 0),
-    }
+    slot.map_or(-1, |k| k as i32)
 }
 
 // The means' floats.
+#[tactic(auto, unfolding(crate::specs::Arrays::floats))]
 pub fn line_floats(l: DayLine) -> [f64; 6]
     ensures { result ≡ floats l }
 {
-    let t = l.temperature;
-    let d = l.dew_point;
-    let p = l.pressure;
-    let w = l.wind;
-    let c = l.cloud;
-    let v = l.vapour;
     [
-        mean_float(t),
-        mean_float(d),
-        mean_float(p),
-        mean_float(w),
-        mean_float(c),
-        mean_float(v),
+        mean_float(l.temperature),
+        mean_float(l.dew_point),
+        mean_float(l.pressure),
+        mean_float(l.wind),
+        mean_float(l.cloud),
+        mean_float(l.vapour),
     ]
 }
 
 // All that a day line has but the floats.
+#[tactic(auto, unfolding(crate::specs::Arrays::numbers))]
 pub fn line_numbers(l: DayLine) -> [i32; 14]
     requires { Small l }
     ensures { result ≡ numbers l }
 {
-    let t = l.temperature;
-    let d = l.dew_point;
-    let p = l.pressure;
-    let w = l.wind;
-    let c = l.cloud;
-    let v = l.vapour;
-    let rain = l.rain;
-    let warmest = l.warmest;
-    let coldest = l.coldest;
     [
-        mean_kind(t),
-        mean_kind(d),
-        mean_kind(p),
-        mean_kind(w),
-        mean_kind(c),
-        mean_kind(v),
-        rain_present(rain),
-        rain_tenths(rain),
-        slot_number(warmest),
-        slot_number(coldest),
-        difference(l.read, 0),
-        difference(l.corrected, 0),
-        difference(l.filled, 0),
-        difference(l.missing, 0),
+        mean_kind(l.temperature),
+        mean_kind(l.dew_point),
+        mean_kind(l.pressure),
+        mean_kind(l.wind),
+        mean_kind(l.cloud),
+        mean_kind(l.vapour),
+        rain_present(l.rain),
+        rain_tenths(l.rain),
+        slot_number(l.warmest),
+        slot_number(l.coldest),
+        l.read as i32,
+        l.corrected as i32,
+        l.filled as i32,
+        l.missing as i32,
     ]
 }
