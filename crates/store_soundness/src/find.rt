@@ -6,37 +6,32 @@ ghost use Rattle.store_layout.specs.Index.{index_in, numbers};
 ghost use Rattle.store_soundness.specs.Located.{placed, located};
 
 use crate::sound::is_sound;
+use refusals::Refusal;
 use store_numbers::at::{COUNT_AT, entry_at};
 use store_numbers::read::{long_at, word_at};
 
-// An unsound store; a station that is not in it; a station's index.
-#[derive(Clone, Copy)]
-pub enum Located {
-    Unsound,
-    Absent,
-    At(usize),
-}
-
 // A station's index in a store that is known to be sound; its frame is enough.
-pub fn find(store: &[u8], station: u32) -> Located
+pub fn find(store: &[u8], station: u32) -> Option<usize>
     requires { Framed store.now }
     ensures { result ≡ placed (index_in (numbers (decode store.now)) station) }
 {
     let n = word_at(store, COUNT_AT) as usize;
+    // A `for`: of `(0..n).find(..)` the proof did not close.
     for i in 0..n {
         if long_at(store, entry_at(i)) == station {
-            return Located::At(i);
+            return Some(i);
         }
     }
-    Located::Absent
+    None
 }
 
-// Soundness and search in one answer.
-pub fn locate(store: &[u8], station: u32) -> Located
+// Soundness and search in one answer: refused 9, 6.
+#[tactic(auto, unfolding(crate::specs::Located::located))]
+pub fn locate(store: &[u8], station: u32) -> Result<usize, Refusal>
     ensures { result ≡ located store.now station }
 {
     if !is_sound(store) {
-        return Located::Unsound;
+        return Err(Refusal::Unsound);
     }
-    find(store, station)
+    find(store, station).ok_or(Refusal::UnknownStation)
 }

@@ -1,13 +1,10 @@
 -- `store_soundness::stations::are_stations` meets its contract. The loop's invariant: each station passed is sound and in order, and `last` is the last number.
-use mathlib.Core.Path.{refl, ◌∙◌}
+use mathlib.Core.Path.{◌∙◌}
 use native.Mathlib.Numerals.{add-one}
 use borrow.Author.Rules.{rules}
-use Rattle.store_numbers.proofs.Passed.{none, more, whole, stopped}
+use Rattle.store_numbers.proofs.Passed.{more, whole, stopped}
 use Rattle.store_soundness.proofs.InTurn.{stations_in_turn}
 use Rattle.store_soundness.proofs.stations.are_stations.Goals as goal
-
-pub loop-i-init : goal.loop-i-init
-loop-i-init c = (none _ _, refl)
 
 pub returns-then-not-is_station : goal.returns-then-not-is_station
 returns-then-not-is_station c =
