@@ -26,7 +26,7 @@ use Rattle.store_layout.proofs.Validity.{EntryParts, entry_parts}
 use Rattle.store_layout.proofs.Writes.{lent, part_inside}
 use Rattle.store_layout.proofs.StationWrites.{write_station, framed_sets, count_kept}
 use Rattle.store_entries.specs.Marked.{Marked}
-use Rattle.engine_answers.specs.Good.{Good}
+use Rattle.engine_answers.specs.Good.{Good, StationAt}
 
 -- the part of s from a on that is lent, with the code's b
 abbrev part : List ℕ → ℕ → List ℕ
@@ -50,49 +50,49 @@ module _ {s : List ℕ} (g : Good s) where
   pub headed : header_length ≤ length s
   headed = let l : length s ≡ block_at (word s count_at) (word s count_at) = framed.long in omega arith
 
-  module _ {i : ℕ} (l : i < word s count_at) where
-    pub at_index : Framed s × (i < word s count_at)
-    at_index = (framed, l)
+module _ {s : List ℕ} {i : ℕ} (h : StationAt s i) where
+  pub at_index : Framed s × (i < word s count_at)
+  at_index = (framed h.good, h.there)
 
-    pub valid_station : ValidStation (station_at (decode s).stations i)
-    valid_station = valid.each i (subst (λ (n : ℕ). i < n) (sym (stations_count s)) l)
+  pub valid_station : ValidStation (station_at (decode s).stations i)
+  valid_station = (valid h.good).each i (subst (λ (n : ℕ). i < n) (sym (stations_count s)) h.there)
 
-    pub entry : let t = station_at (decode s).stations i in EntryParts t.number t.row t.settled
-    entry = entry_parts valid_station.entry
+  pub entry : let t = station_at (decode s).stations i in EntryParts t.number t.row t.settled
+  entry = entry_parts valid_station.entry
 
-    -- the block begins at a
-    module _ {a : ℕ} (p : a ≡ block_at (word s count_at) i) where
-      width : a + block_length - a ≡ block_length
-      width = omega arith
+  -- the block begins at a
+  module _ {a : ℕ} (p : a ≡ block_at (word s count_at) i) where
+    width : a + block_length - a ≡ block_length
+    width = omega arith
 
-      inside : a + block_length ≤ length s
-      inside = let h : length s ≡ block_at (word s count_at) (word s count_at) = framed.long in omega arith
+    inside : a + block_length ≤ length s
+    inside = let e : length s ≡ block_at (word s count_at) (word s count_at) = (framed h.good).long in omega (arith, h.there)
 
-      part_length : length (part s a) ≡ block_length
-      part_length = subst (λ (n : ℕ). length (take n (drop a s)) ≡ block_length) (sym width) (length_part block_length a s inside)
+    part_length : length (part s a) ≡ block_length
+    part_length = subst (λ (n : ℕ). length (take n (drop a s)) ≡ block_length) (sym width) (length_part block_length a s inside)
 
-      pub part_block : decode_block (part s a) ≡ (station_at (decode s).stations i).block
-      unfolding decode_station
-      part_block =
-          ap (λ (n : ℕ). decode_block (take n (drop a s))) width ∙ ap (λ (k : ℕ). decode_block (take block_length (drop k s))) p
-          ∙ sym (ap (λ (t : Station). t.block) (station_of_bytes s i l))
+    pub part_block : decode_block (part s a) ≡ (station_at (decode s).stations i).block
+    unfolding decode_station
+    part_block =
+        ap (λ (n : ℕ). decode_block (take n (drop a s))) width ∙ ap (λ (k : ℕ). decode_block (take block_length (drop k s))) p
+        ∙ sym (ap (λ (t : Station). t.block) (station_of_bytes s i h.there))
 
-      -- what is given back is as long as what was lent
-      module _ (ys : List ℕ) (e : length ys ≡ length (part s a)) where
-        back_is : back s a ys ≡ sets s a ys
-        back_is = lent s ys a (a + block_length) (omega arith) (let h = inside in omega arith) (e ∙ part_length ∙ sym width)
+    -- what is given back is as long as what was lent
+    module _ (ys : List ℕ) (e : length ys ≡ length (part s a)) where
+      back_is : back s a ys ≡ sets s a ys
+      back_is = lent s ys a (a + block_length) (omega arith) (let w = inside in omega arith) (e ∙ part_length ∙ sym width)
 
-        pub back_at_index : Framed (back s a ys) × (i < word (back s a ys) count_at)
-        back_at_index = rw back_is (framed_sets s ys a (omega arith) framed, rw (count_kept s ys a (omega arith)) l)
+      pub back_at_index : Framed (back s a ys) × (i < word (back s a ys) count_at)
+      back_at_index = rw back_is (framed_sets s ys a (omega arith) (framed h.good), rw (count_kept s ys a (omega arith)) h.there)
 
-        pub written : {u : List ℕ} {v : ℕ} {t : Station} → Marked (back s a ys) i v u → v < 65536 → Bytes (back s a ys)
-            → with_block (decode_block ys) v (station_at (decode s).stations i) ≡ t → u ≡ encode (with_station i t (decode s))
-        written {u} {v} {t} m h k q =
-            m.bytes ∙ ap (λ (u : List ℕ). sets u (entry_at i + settled_in) (word_bytes v)) (back_is ∙ ap (λ (j : ℕ). sets s j ys) p)
-            ∙ write_station s framed i l ys (e ∙ part_length) v g.bytes within h ∙ ap (λ (t : Station). encode (with_station i t (decode s))) q
-          where
-            within : Bytes ys
-            within = subst Bytes (ap (λ (u : List ℕ). take (length ys) (drop a u)) back_is ∙ part_inside ys s a room) (bytes_part (length ys) a k)
-              where
-                room : a + length ys ≤ length s
-                room = let h = inside in let w = e ∙ part_length in omega arith
+      pub written : {u : List ℕ} {v : ℕ} {t : Station} → Marked (back s a ys) i v u → v < 65536 → Bytes (back s a ys)
+          → with_block (decode_block ys) v (station_at (decode s).stations i) ≡ t → u ≡ encode (with_station i t (decode s))
+      written {u} {v} {t} m f k q =
+          m.bytes ∙ ap (λ (u : List ℕ). sets u (entry_at i + settled_in) (word_bytes v)) (back_is ∙ ap (λ (j : ℕ). sets s j ys) p)
+          ∙ write_station s (framed h.good) i h.there ys (e ∙ part_length) v h.good.bytes within f ∙ ap (λ (t : Station). encode (with_station i t (decode s))) q
+        where
+          within : Bytes ys
+          within = subst Bytes (ap (λ (u : List ℕ). take (length ys) (drop a u)) back_is ∙ part_inside ys s a room) (bytes_part (length ys) a k)
+            where
+              room : a + length ys ≤ length s
+              room = let z = inside in let w = e ∙ part_length in omega arith

@@ -1,33 +1,31 @@
 -- What the calls' answers say, in the paper's terms: "When an answer is an enum, a definition gives this paper's number and values for each
 -- of its cases, and the promises use that definition."
 -- Assumes nothing.
-use Rattle.std.specs.Prelude.{◌≡◌, cond, List, ℕ, length}
+use Rattle.std.specs.Prelude.{◌≡◌, cond, List, ℕ, length, Result, Ok, Err}
 use Rattle.daily.specs.Coded.{Says}
 use Rattle.store_layout.specs.Form.{Form, ours}
 use Rattle.store_layout.specs.Opening.{openable_in, fresh}
-use Rattle.engine_answers.specs.declared.Reply.{Reply}
-use Rattle.engine_answers.specs.declared.Reply.TheVariants as plain
-use Rattle.engine_answers.specs.declared.CellReply.{CellReply}
-use Rattle.engine_answers.specs.declared.CellReply.TheVariants as ofCell
-use Rattle.engine_answers.specs.declared.DayReply.{DayReply}
-use Rattle.engine_answers.specs.declared.DayReply.TheVariants as ofDay
+use Rattle.daily.specs.declared.DayLine.{DayLine}
+use Rattle.engine_answers.specs.declared.Cell.{Cell}
+use Rattle.refusals.specs.declared.Refusal.{Refusal}
+use Rattle.refusals.specs.Refusals.{number}
 use Rattle.rules.specs.Calls.{Answer, refused, accepted, a_cell, on_refused, on_day}
 use Rattle.rules.specs.Step.{Outcome}
 
 -- of open, file, settle, begin and step
-abbrev pub reply : Reply → Answer
-reply plain.Accepted = accepted
-reply (plain.Refused n) = refused n
+abbrev pub reply : Result (Unit {0}) Refusal → Answer
+reply (Ok u) = accepted
+reply (Err r) = refused (number r)
 
 -- of cell
-abbrev pub cell_reply : CellReply → Answer
-cell_reply (ofCell.Cell c) = a_cell (record { state = c.state; flag = c.flag; value = c.value })
-cell_reply (ofCell.Refused n) = refused n
+abbrev pub cell_reply : Result Cell Refusal → Answer
+cell_reply (Ok c) = a_cell (record { state = c.state; flag = c.flag; value = c.value })
+cell_reply (Err r) = refused (number r)
 
 -- of day: the code's line has each mean as a float, the paper's the eightfold sum that it is an eighth of
-abbrev pub SaysDay : DayReply → Answer → Type 0
-SaysDay (ofDay.Line l) a = on_day (Says l) ⊥ a
-SaysDay (ofDay.Refused n) a = on_refused (λ m. n ≡ m) ⊥ a
+abbrev pub SaysDay : Result DayLine Refusal → Answer → Type 0
+SaysDay (Ok l) a = on_day (Says l) ⊥ a
+SaysDay (Err r) a = on_refused (λ m. number r ≡ m) ⊥ a
 
 -- a call answered a and left the bytes t, as the outcome o says
 pub record Did (o : Outcome) (a : Answer) (t : List ℕ) : Type 0 where

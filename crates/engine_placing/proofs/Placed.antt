@@ -1,12 +1,12 @@
 -- A report of a rank in a slot: refused where the slot has a higher rank or is filed with that rank, else put there.
---     below, above, already, free
+--     above, already, free
 -- The station that this makes, as the code makes it.
 --     filed_as
 -- Assumes nothing.
 use mathlib.Core.Path.{◌≡◌, refl, sym, ◌∙◌, ap, ap₂}
 use mathlib.Core.Bool.{Bool, true, false, cond, ◌&&◌}
 use mathlib.Core.List.{List}
-use Prim.Native.Nat.{ℕ, ◌<◌}
+use Prim.Native.Nat.{ℕ, ◌<◌, ◌≤◌}
 use native.Mathlib.Omega.{arith}
 use borrow.Author.Tests.{lt-ltb, le-ltb, eq-eqb, ne_eqb}
 use lib.Dec.{ltb, eqb}
@@ -19,34 +19,25 @@ use Rattle.synop_contents.specs.declared.Indicators.{Indicators}
 use Rattle.rules.specs.Calls.{refused}
 use Rattle.rules.specs.Rules.{Effect, keeps, makes, filed_head, filed_cells, reported, filed, file_at}
 
--- by the head that it has, as the code looks at it: its rank higher than this one, lower, or the same
+-- by the head that it has, as the code looks at it: its rank higher than this one, or filed with this one
 module _ (k rank : ℕ) (head : Indicators) (values : List Value) (t : Station) {old : SlotHead} (e : old ≡ head_of t.block k) where
   abbrev by_tests : Bool → Bool → Effect
-  by_tests below same = cond below (keeps (refused 13)) (cond same (keeps (refused 8)) (makes (filed k rank head values t)))
+  by_tests above same = cond above (keeps (refused 13)) (cond same (keeps (refused 8)) (makes (filed k rank head values t)))
 
-  rule_as : (a b : Bool) → ltb rank old.rank ≡ a → (eqb old.filed 1 && eqb rank old.rank) ≡ b → file_at k rank head values t ≡ by_tests a b
+  rule_as : {a b : Bool} → ltb rank old.rank ≡ a → (eqb old.filed 1 && eqb rank old.rank) ≡ b → file_at k rank head values t ≡ by_tests a b
   unfolding file_at
-  rule_as a b p q =
+  rule_as p q =
       ap (λ (h : SlotHead). by_tests (ltb rank h.rank) (eqb h.filed 1 && eqb rank h.rank)) (sym e) ∙ ap₂ by_tests p q
 
-  pub below : rank < old.rank → file_at k rank head values t ≡ keeps (refused 13)
-  below p = rule_as true _ (lt-ltb rank old.rank p) refl
+  pub above : rank < old.rank → file_at k rank head values t ≡ keeps (refused 13)
+  above p = rule_as (lt-ltb rank old.rank p) refl
 
-  pub above : old.rank < rank → file_at k rank head values t ≡ makes (filed k rank head values t)
-  above p =
-      rule_as false false (le-ltb rank old.rank (omega (arith, p)))
-      (and_false_right (eqb old.filed 1) (eqb rank old.rank) (ne_eqb rank old.rank (λ q. omega (arith, p, q))))
+  module _ (p : old.rank ≤ rank) where
+    pub already : (eqb old.filed 1 && eqb rank old.rank) ≡ true → file_at k rank head values t ≡ keeps (refused 8)
+    already = rule_as (le-ltb rank old.rank p)
 
-  module _ (p : rank ≡ old.rank) where
-    same_as : (b : Bool) → eqb old.filed 1 ≡ b → file_at k rank head values t ≡ by_tests false (b && true)
-    same_as b f =
-        rule_as false (b && true) (le-ltb rank old.rank (omega (arith, p))) (and_eq f (eq-eqb rank old.rank p))
-
-    pub already : old.filed ≡ 1 → file_at k rank head values t ≡ keeps (refused 8)
-    already f = same_as true (eq-eqb old.filed 1 f)
-
-    pub free : (old.filed ≡ 1 → ⊥) → file_at k rank head values t ≡ makes (filed k rank head values t)
-    free f = same_as false (ne_eqb old.filed 1 f)
+    pub free : (eqb old.filed 1 && eqb rank old.rank) ≡ false → file_at k rank head values t ≡ makes (filed k rank head values t)
+    free = rule_as (le-ltb rank old.rank p)
 
 pub filed_as : (k rank : ℕ) (head : Indicators) (values : List Value) (t : Station) {n m : ℕ} {b x : Block} → n ≡ t.settled → m ≡ reported n
     → b ≡ t.block → x ≡ with_slot k (filed_head k rank (head_of b k).copy head) (filed_cells k head values) b

@@ -2,11 +2,11 @@
 // the settled number beside it is `engine_numbers`' matter.
 #![tactic(auto)]
 
-ghost use Rattle.std.specs.Prelude.{◌≡◌, ◌<◌};
+ghost use Rattle.std.specs.Prelude.{◌≡◌};
 ghost use Rattle.store_layout.specs.Model.{station_at};
-ghost use Rattle.store_layout.specs.Layout.{count_at, word, decode, encode};
+ghost use Rattle.store_layout.specs.Layout.{decode, encode};
 ghost use Rattle.store_layout.specs.Updates.{with_station};
-ghost use Rattle.engine_answers.specs.Good.{Good};
+ghost use Rattle.engine_answers.specs.Good.{StationAt};
 ghost use Rattle.engine_answers.specs.Replies as replies;
 ghost use Rattle.engine_answers.specs.Replies.{Did};
 ghost use Rattle.rules.specs.Calls.{stepping};
@@ -14,15 +14,15 @@ ghost use Rattle.rules.specs.Rules.{begun_station, portion, rule};
 ghost use Rattle.rules.specs.Reaction.{date_of};
 ghost use Rattle.rules.specs.Step.{after};
 
-use engine_answers::Reply;
 use engine_block::{begin_block, step_block};
 use engine_numbers::{due, number_after};
+use refusals::Refusal;
 use store_entries::{block_start, date_of, row_of, set_settled, settled_of};
 use store_numbers::at::BLOCK_LENGTH;
 
 // The station at an index, its settling begun: range is due.
 pub fn begin_at(store: &mut [u8], index: usize)
-    requires { Good store.old × (index < word store.old count_at) }
+    requires { StationAt store.old index }
     ensures { store.new ≡ encode (with_station index (begun_station (station_at (decode store.old).stations index)) (decode store.old)) }
 {
     let a = block_start(store, index);
@@ -33,7 +33,7 @@ pub fn begin_at(store: &mut [u8], index: usize)
 
 // The step that is due at its settled number, on the station at an index.
 fn portion_at(store: &mut [u8], index: usize, settled: u16)
-    requires good { Good store.old × (index < word store.old count_at) }
+    requires station { StationAt store.old index }
     requires settled_value { settled ≡ (station_at (decode store.old).stations index).settled }
     ensures { store.new ≡ encode (with_station index (portion (date_of (decode store.old)) (station_at (decode store.old).stations index)) (decode store.old)) }
 {
@@ -48,14 +48,14 @@ fn portion_at(store: &mut [u8], index: usize, settled: u16)
 }
 
 // A step call on the station at an index: refused 14 while no settling is under way.
-pub fn step_at(store: &mut [u8], index: usize) -> Reply
-    requires { Good store.old × (index < word store.old count_at) }
+pub fn step_at(store: &mut [u8], index: usize) -> Result<(), Refusal>
+    requires { StationAt store.old index }
     ensures { Did (after (rule (date_of (decode store.old)) stepping (station_at (decode store.old).stations index)) index (decode store.old) store.old) (replies.reply result) store.new }
 {
     let settled = settled_of(store, index);
     if settled < 2 {
-        return Reply::Refused(14);
+        return Err(Refusal::NotUnderWay);
     }
     portion_at(store, index, settled);
-    Reply::Accepted
+    Ok(())
 }

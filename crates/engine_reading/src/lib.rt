@@ -1,36 +1,38 @@
 // What a settled station answers: a checked cell, its day line.
 #![tactic(auto)]
 
-ghost use Rattle.std.specs.Prelude.{◌≡◌, ◌<◌};
+ghost use Rattle.std.specs.Prelude.{◌≡◌};
 ghost use Rattle.store_layout.specs.Model.{station_at};
-ghost use Rattle.store_layout.specs.Layout.{count_at, word, decode};
-ghost use Rattle.engine_answers.specs.Good.{Good};
+ghost use Rattle.store_layout.specs.Layout.{decode};
+ghost use Rattle.engine_answers.specs.Good.{StationAt};
 ghost use Rattle.engine_answers.specs.Replies.{cell_reply, SaysDay};
 ghost use Rattle.rules.specs.Rules.{cell_of, day_of};
 
-use engine_answers::{Cell, CellReply, DayReply};
+use daily::DayLine;
+use engine_answers::Cell;
 use laws::difference;
+use refusals::Refusal;
 use store_block::block::{heads_of, sheet_of};
 use store_cells::{Area, cell_of};
 use store_entries::{block_start, settled_of};
 use store_numbers::at::BLOCK_LENGTH;
 
 // One checked cell of the station at an index.
-pub fn give_cell(store: &[u8], index: usize, element: u32, slot: u32) -> CellReply
-    requires { Good store.now × (index < word store.now count_at) }
+pub fn give_cell(store: &[u8], index: usize, element: u32, slot: u32) -> Result<Cell, Refusal>
+    requires { StationAt store.now index }
     ensures { cell_reply result ≡ cell_of element slot (station_at (decode store.now).stations index) }
 {
     let within = (element <= 8) & (slot <= 8);
     if !within {
-        return CellReply::Refused(12);
+        return Err(Refusal::NoCell);
     }
     if settled_of(store, index) != 1 {
-        return CellReply::Refused(11);
+        return Err(Refusal::NotSettled);
     }
     let a = block_start(store, index);
     let b = a + BLOCK_LENGTH;
     let d = cell_of(&store[a..b], Area::Checked, element as usize, slot as usize);
-    CellReply::Cell(Cell {
+    Ok(Cell {
         state: d.state,
         flag: d.flag,
         value: difference(d.value as u32, 32768),
@@ -38,16 +40,16 @@ pub fn give_cell(store: &[u8], index: usize, element: u32, slot: u32) -> CellRep
 }
 
 // The day line of the station at an index.
-pub fn give_day(store: &[u8], index: usize) -> DayReply
-    requires { Good store.now × (index < word store.now count_at) }
+pub fn give_day(store: &[u8], index: usize) -> Result<DayLine, Refusal>
+    requires { StationAt store.now index }
     ensures { SaysDay result (day_of (station_at (decode store.now).stations index)) }
 {
     if settled_of(store, index) != 1 {
-        return DayReply::Refused(11);
+        return Err(Refusal::NotSettled);
     }
     let a = block_start(store, index);
     let b = a + BLOCK_LENGTH;
     let checked = sheet_of(&store[a..b], Area::Checked);
     let heads = heads_of(&store[a..b]);
-    DayReply::Line(daily_line::day_line(checked, heads))
+    Ok(daily_line::day_line(checked, heads))
 }

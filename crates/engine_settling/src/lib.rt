@@ -3,11 +3,11 @@
 
 ghost use Rattle.std.specs.Prelude.{◌≡◌, ◌<◌, length};
 ghost use Rattle.store_layout.specs.Model.{station_at};
-ghost use Rattle.store_layout.specs.Layout.{block_length, count_at, word, decode_block, decode, encode};
+ghost use Rattle.store_layout.specs.Layout.{block_length, decode_block, decode, encode};
 ghost use Rattle.store_layout.specs.Updates.{with_checked, with_copies, with_station};
 ghost use Rattle.quality.specs.Settled.{settled};
 ghost use Rattle.quality.specs.Valid.{ValidSheet};
-ghost use Rattle.engine_answers.specs.Good.{Good};
+ghost use Rattle.engine_answers.specs.Good.{StationAt};
 ghost use Rattle.rules.specs.Rules.{directions, settled_station};
 ghost use Rattle.rules.specs.Reaction.{date_of};
 
@@ -30,7 +30,7 @@ fn settle_block(block: &mut [u8], row: usize, warm: bool)
 
 // The station at an index, settled.
 pub fn settle_at(store: &mut [u8], index: usize)
-    requires { Good store.old × (index < word store.old count_at) }
+    requires { StationAt store.old index }
     ensures { store.new ≡ encode (with_station index (settled_station (date_of (decode store.old)) (station_at (decode store.old).stations index)) (decode store.old)) }
 {
     let date = date_of(store);

@@ -1,6 +1,8 @@
 -- What opening a store answers, and the buffer that it leaves.
 -- Assumes nothing.
-use Rattle.std.specs.Prelude.{◌≡◌, Bool, cond, ◌&&◌, List, ℕ, suc, ◌-◌, leb, ltb, length, get_or}
+use Rattle.std.specs.Prelude.{◌≡◌, Bool, cond, ◌&&◌, List, ℕ, suc, ◌-◌, leb, ltb, length, get_or, Result, Ok, Err}
+use Rattle.refusals.specs.declared.Refusal.{Refusal}
+use Rattle.refusals.specs.declared.Refusal.TheVariants.{Unopenable}
 use Rattle.laws.specs.All.{all}
 use Rattle.store_layout.specs.Layout.{encode}
 use Rattle.store_layout.specs.Opening.{openable, fresh}
@@ -12,6 +14,6 @@ listed numbers rows =
     && all (λ i. ltb (get_or numbers i 0) (get_or numbers (suc i) 0)) (length numbers - 1)
 
 -- s is the buffer before, t after: a fresh store, "every byte", or, where it is refused, s itself
-pub record Opened (s : List ℕ) (year month day : ℕ) (numbers rows : List ℕ) (answer : Bool) (t : List ℕ) : Type 0 where
-  pub accepted : answer ≡ openable (length s) year month day numbers rows
+pub record Opened (s : List ℕ) (year month day : ℕ) (numbers rows : List ℕ) (result : Result (Unit {0}) Refusal) (t : List ℕ) : Type 0 where
+  pub answer : result ≡ cond (openable (length s) year month day numbers rows) (Ok tt) (Err Unopenable)
   pub left : t ≡ cond (openable (length s) year month day numbers rows) (encode (fresh year month day numbers rows)) s

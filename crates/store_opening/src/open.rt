@@ -3,6 +3,7 @@ ghost use Rattle.std.specs.Prelude.{◌≡◌, ◌&&◌, leb, ltb, length};
 ghost use Rattle.store_layout.specs.Opening.{openable};
 ghost use Rattle.store_opening.specs.Opened.{listed, Opened};
 
+use refusals::Refusal;
 use store_fresh::put_fresh;
 use store_numbers::at::{MOST_STATIONS, store_length};
 
@@ -19,9 +20,8 @@ fn are_listed(stations: &[u32], rows: &[u16]) -> bool
     ensures { result ≡ listed stations.now rows.now }
 {
     let mut last = 0;
-    for i in 0..stations.len() {
-        let number = stations[i];
-        if !is_listed(last, number, rows[i]) {
+    for (&number, &row) in stations.iter().zip(rows) {
+        if !is_listed(last, number, row) {
             return false;
         }
         last = number;
@@ -60,13 +60,12 @@ pub fn open(
     day: u32,
     stations: &[u32],
     rows: &[u16],
-) -> bool
+) -> Result<(), Refusal>
     ensures { Opened store.old year month day stations.now rows.now result store.new }
 {
-    let accepted = is_openable(store.len(), year, month, day, stations, rows);
-    if !accepted {
-        return false;
+    if !is_openable(store.len(), year, month, day, stations, rows) {
+        return Err(Refusal::Unopenable);
     }
     put_fresh(store, year, month, day, stations, rows);
-    accepted
+    Ok(())
 }

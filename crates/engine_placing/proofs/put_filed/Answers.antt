@@ -1,5 +1,4 @@
 -- `engine_placing::put_filed` meets its contract.
-use mathlib.Core.Path.{refl}
 use native.Mathlib.Omega.{arith}
 use borrow.Author.Rules.{rules}
 use Rattle.synop_contents.specs.Contents.{listed}
@@ -9,31 +8,26 @@ use Rattle.engine_placing.proofs.put_filed.Goals as goal
 
 pub reported-requires : goal.reported-requires
 reported-requires c =
-    let o = c.requires in
-    omega (arith, c.settled_of-settled.ensures, (entry o.0 o.1).settled_most)
+    let o = c.requires.station in
+    omega (arith, c.settled_of-settled.ensures, (entry o).settled_most)
 
 pub set_settled-requires : goal.set_settled-requires
 set_settled-requires c =
-    let o = c.requires in
+    let o = c.requires.station in
     let b = c.put_report in
-    back_at_index o.0 o.1 c.block_start-a.ensures.0 b.new.block b.auto.block
+    back_at_index o c.block_start-a.ensures.0 b.new.block b.auto.block
 
 pub returns : goal.returns
 returns c =
     let x = c.args in
-    let o = c.requires in
+    let o = c.requires.station in
     let p = c.block_start-a.ensures.0 in
     let b = c.put_report in
-    record {
-      answer = refl;
-      left =
-          written o.0 o.1 p b.new.block b.auto.block c.set_settled.ensures (search rules) (known (λ k. search rules))
-          (filed_as x.k x.rank x.head (listed x.values) _ c.settled_of-settled.ensures c.reported.ensures
-          (part_block o.0 o.1 p) b.ensures);
-    }
+    written o p b.new.block b.auto.block c.set_settled.ensures (search rules) (known (λ k. search rules))
+    (filed_as x.k x.f.rank x.f.indicators (listed x.f.values) _ c.settled_of-settled.ensures c.reported.ensures (part_block o p) b.ensures)
 
 pub settled_of-settled-requires : goal.settled_of-settled-requires
-settled_of-settled-requires c = at_index c.requires.0 c.requires.1
+settled_of-settled-requires c = at_index c.requires.station
 
 pub block_start-a-requires : goal.block_start-a-requires
-block_start-a-requires c = at_index c.requires.0 c.requires.1
+block_start-a-requires c = at_index c.requires.station

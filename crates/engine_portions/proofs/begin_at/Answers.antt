@@ -9,15 +9,15 @@ pub set_settled-requires : goal.set_settled-requires
 set_settled-requires c =
     let o = c.requires in
     let b = c.begin_block in
-    back_at_index o.0 o.1 c.block_start-a.ensures.0 b.new.block b.auto.block
+    back_at_index o c.block_start-a.ensures.0 b.new.block b.auto.block
 
 pub returns : goal.returns
 returns c =
     let o = c.requires in
     let p = c.block_start-a.ensures.0 in
     let b = c.begin_block in
-    written o.0 o.1 p b.new.block b.auto.block {v = 2} c.set_settled.ensures (lit< tt) (known (λ k. search rules))
-    (begun_as _ (part_block o.0 o.1 p) b.ensures)
+    written o p b.new.block b.auto.block {v = 2} c.set_settled.ensures (lit< tt) (known (λ k. search rules))
+    (begun_as _ (part_block o p) b.ensures)
 
 pub block_start-a-requires : goal.block_start-a-requires
-block_start-a-requires c = at_index c.requires.0 c.requires.1
+block_start-a-requires c = at_index c.requires

@@ -9,35 +9,35 @@ use Rattle.engine_portions.proofs.portion_at.Goals as goal
 
 pub step_block-requires : goal.step_block-requires
 step_block-requires c =
-    let o = c.requires.good in
-    (search rules, omega (arith, (entry o.0 o.1).row_most, c.row_of-row.ensures), rw (part_block o.0 o.1 c.block_start-a.ensures.0) (valid_station o.0 o.1).block.checked)
+    let o = c.requires.station in
+    (search rules, omega (arith, (entry o).row_most, c.row_of-row.ensures), rw (part_block o c.block_start-a.ensures.0) (valid_station o).block.checked)
 
 pub number_after-requires : goal.number_after-requires
 number_after-requires c =
     let o = c.requires in
-    omega (arith, o.settled_value, (entry o.good.0 o.good.1).settled_most)
+    omega (arith, o.settled_value, (entry o.station).settled_most)
 
 pub set_settled-requires : goal.set_settled-requires
 set_settled-requires c =
-    let o = c.requires.good in
+    let o = c.requires.station in
     let b = c.step_block in
-    back_at_index o.0 o.1 c.block_start-a.ensures.0 b.new.block b.auto.block
+    back_at_index o c.block_start-a.ensures.0 b.new.block b.auto.block
 
 pub returns : goal.returns
 returns c =
     let o = c.requires in
     let p = c.block_start-a.ensures.0 in
     let b = c.step_block in
-    written o.good.0 o.good.1 p b.new.block b.auto.block c.set_settled.ensures (search rules) (known (λ k. search rules))
+    written o.station p b.new.block b.auto.block c.set_settled.ensures (search rules) (known (λ k. search rules))
     (portion_as _ _ c.due-step.ensures o.settled_value c.number_after.ensures c.row_of-row.ensures
     (c.is_warm-warm.ensures ∙ ap limits.warm c.date_of-date.ensures.1)
-    (part_block o.good.0 o.good.1 p) b.ensures)
+    (part_block o.station p) b.ensures)
 
 pub date_of-date-requires : goal.date_of-date-requires
-date_of-date-requires c = headed c.requires.good.0
+date_of-date-requires c = headed c.requires.station.good
 
 pub row_of-row-requires : goal.row_of-row-requires
-row_of-row-requires c = at_index c.requires.good.0 c.requires.good.1
+row_of-row-requires c = at_index c.requires.station
 
 pub block_start-a-requires : goal.block_start-a-requires
-block_start-a-requires c = at_index c.requires.good.0 c.requires.good.1
+block_start-a-requires c = at_index c.requires.station

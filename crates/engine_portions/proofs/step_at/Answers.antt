@@ -15,7 +15,7 @@ returns-then-settled-lt2 c =
     rw (lt-leb 2 (station_at (decode o.args.store.now).stations o.args.index).settled (omega (arith, c.settled_of-settled.ensures, c.if-settled-lt2.true))) (record { answer = refl; left = refl })
 
 pub portion_at-requires : goal.portion_at-requires
-portion_at-requires c = record { good = (c.requires.0, c.requires.1); settled_value = c.settled_of-settled.ensures }
+portion_at-requires c = record { station = c.requires; settled_value = c.settled_of-settled.ensures }
 
 pub returns : goal.returns
 unfolding rule
@@ -24,4 +24,4 @@ returns c =
     rw (le-leb 2 (station_at (decode o.args.store.now).stations o.args.index).settled (omega (arith, c.settled_of-settled.ensures, c.if-settled-lt2.false))) (record { answer = refl; left = c.portion_at.ensures })
 
 pub settled_of-settled-requires : goal.settled_of-settled-requires
-settled_of-settled-requires c = Stores.at_index c.requires.0 c.requires.1
+settled_of-settled-requires c = Stores.at_index c.requires

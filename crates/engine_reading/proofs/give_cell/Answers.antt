@@ -29,7 +29,7 @@ returns c =
     rw (c.if-not-within.false, eq-eqb _ 1 (sym c.settled_of.ensures ∙ c.if-settled_of-ne1.false))
     (ap a_cell
     ((λ j. record { state = d.result.state; flag = d.result.flag; value = (to_z-of_z {w = w32} (search rules) ∙ c.difference.ensures) j })
-    ∙ d.ensures ∙ ap (λ (x : Block). slot (column x.checked o.args.element) o.args.slot) (part_block o.requires.0 o.requires.1 c.block_start-a.ensures.0)))
+    ∙ d.ensures ∙ ap (λ (x : Block). slot (column x.checked o.args.element) o.args.slot) (part_block o.requires c.block_start-a.ensures.0)))
 
 pub returns-then-not-within : goal.returns-then-not-within
 unfolding cell_of
@@ -37,7 +37,7 @@ returns-then-not-within c = rw c.if-not-within.true
 
 pub settled_of-requires : goal.settled_of-requires
 unfolding cell_of
-settled_of-requires c = at_index c.requires.0 c.requires.1
+settled_of-requires c = at_index c.requires
 
 pub returns-then-settled_of-ne1 : goal.returns-then-settled_of-ne1
 unfolding cell_of
@@ -45,4 +45,4 @@ returns-then-settled_of-ne1 c = rw (c.if-not-within.false, ne_eqb _ 1 (λ q. c.i
 
 pub block_start-a-requires : goal.block_start-a-requires
 unfolding cell_of
-block_start-a-requires c = at_index c.requires.0 c.requires.1
+block_start-a-requires c = at_index c.requires

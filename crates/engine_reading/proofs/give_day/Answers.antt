@@ -12,20 +12,20 @@ use Rattle.engine_reading.proofs.give_day.Goals as goal
 pub day_line-requires : goal.day_line-requires
 day_line-requires c =
     let o = c.requires in
-    subst ValidSheet (sym (c.sheet_of-checked.ensures ∙ ap (λ (x : Block). x.checked) (part_block o.0 o.1 c.block_start-a.ensures.0)))
-    (valid_station o.0 o.1).block.checked
+    subst ValidSheet (sym (c.sheet_of-checked.ensures ∙ ap (λ (x : Block). x.checked) (part_block o c.block_start-a.ensures.0)))
+    (valid_station o).block.checked
 
 pub returns : goal.returns
 unfolding day_of
 returns c =
     let o = c.requires in
-    let e = part_block o.0 o.1 c.block_start-a.ensures.0 in
+    let e = part_block o c.block_start-a.ensures.0 in
     rw (eq-eqb _ 1 (sym c.settled_of.ensures ∙ c.if-settled_of-ne1.false))
     (subst (Says _) (ap₂ day_line (c.heads_of-heads.ensures ∙ ap (λ (x : Block). x.heads) e) (c.sheet_of-checked.ensures ∙ ap (λ (x : Block). x.checked) e)) c.day_line.ensures)
 
 pub settled_of-requires : goal.settled_of-requires
 unfolding day_of
-settled_of-requires c = at_index c.requires.0 c.requires.1
+settled_of-requires c = at_index c.requires
 
 pub returns-then-settled_of-ne1 : goal.returns-then-settled_of-ne1
 unfolding day_of
@@ -33,4 +33,4 @@ returns-then-settled_of-ne1 c = rw (ne_eqb _ 1 (λ q. c.if-settled_of-ne1.true (
 
 pub block_start-a-requires : goal.block_start-a-requires
 unfolding day_of
-block_start-a-requires c = at_index c.requires.0 c.requires.1
+block_start-a-requires c = at_index c.requires

@@ -12,29 +12,29 @@ use Rattle.engine_settling.proofs.settle_at.Goals as goal
 pub settle_block-requires : goal.settle_block-requires
 settle_block-requires c =
     let o = c.requires in
-    (search rules, omega (arith, (entry o.0 o.1).row_most, c.row_of-row.ensures), rw (part_block o.0 o.1 c.block_start-a.ensures.0) (raw_sheet_valid _ (valid_station o.0 o.1).block.raw))
+    (search rules, omega (arith, (entry o).row_most, c.row_of-row.ensures), rw (part_block o c.block_start-a.ensures.0) (raw_sheet_valid _ (valid_station o).block.raw))
 
 pub set_settled-requires : goal.set_settled-requires
 set_settled-requires c =
     let o = c.requires in
     let b = c.settle_block in
-    back_at_index o.0 o.1 c.block_start-a.ensures.0 b.new.block b.auto.block
+    back_at_index o c.block_start-a.ensures.0 b.new.block b.auto.block
 
 pub returns : goal.returns
 returns c =
     let o = c.requires in
     let p = c.block_start-a.ensures.0 in
     let b = c.settle_block in
-    written o.0 o.1 p b.new.block b.auto.block {v = 1} c.set_settled.ensures (lit< tt) (known (λ k. search rules))
+    written o p b.new.block b.auto.block {v = 1} c.set_settled.ensures (lit< tt) (known (λ k. search rules))
     (settled_as _ _ c.row_of-row.ensures
     (c.is_warm-warm.ensures ∙ ap limits.warm c.date_of-date.ensures.1)
-    (part_block o.0 o.1 p) b.ensures)
+    (part_block o p) b.ensures)
 
 pub date_of-date-requires : goal.date_of-date-requires
-date_of-date-requires c = headed c.requires.0
+date_of-date-requires c = headed c.requires.good
 
 pub row_of-row-requires : goal.row_of-row-requires
-row_of-row-requires c = at_index c.requires.0 c.requires.1
+row_of-row-requires c = at_index c.requires
 
 pub block_start-a-requires : goal.block_start-a-requires
-block_start-a-requires c = at_index c.requires.0 c.requires.1
+block_start-a-requires c = at_index c.requires
