@@ -8,9 +8,12 @@ ghost use Rattle.engine_answers.specs.Replies.{reply, cell_reply, SaysDay, Did, 
 ghost use Rattle.rules.specs.Step as Step;
 ghost use Rattle.rules.specs.Step.{step};
 
-use engine_answers::{CellReply, DayReply, Reply};
+use daily::DayLine;
+use engine_answers::Cell;
 use quality::head::HIGHEST_RANK;
-use store_soundness::find::{Located, locate};
+use refusals::Refusal;
+use store_soundness::find::locate;
+use store_soundness::sound::is_sound;
 
 // A store opened for a date and stations, each with its climate row: refused 10.
 pub fn open(
@@ -20,87 +23,65 @@ pub fn open(
     day: u32,
     stations: &[u32],
     rows: &[u16],
-) -> Reply
+) -> Result<(), Refusal>
     ensures { Did (open_outcome store.old year month day stations.now rows.now) (reply result) store.new }
 {
-    if store_opening::open::open(store, year, month, day, stations, rows) {
-        return Reply::Accepted;
-    }
-    Reply::Refused(10)
+    store_opening::open::open(store, year, month, day, stations, rows)
 }
 
 // A report filed at a rank, 0 for an ordinary one, 1 to 24 for CCA to CCX: refused 9, then 13 for a rank above 24, 1 to 7, 13 for a rank
 // below the slot's, 8.
 #[tactic(auto, using(crate::proofs::Located::rank_refused))]
-pub fn file(store: &mut [u8], text: &[u8], rank: u32) -> Reply
+pub fn file(store: &mut [u8], text: &[u8], rank: u32) -> Result<(), Refusal>
     ensures { Did (step (Calls.file text.now rank) store.old) (reply result) store.new }
 {
-    if !store_soundness::sound::is_sound(store) {
-        return Reply::Refused(9);
+    if !is_sound(store) {
+        return Err(Refusal::Unsound);
     }
     if HIGHEST_RANK < rank {
-        return Reply::Refused(13);
+        return Err(Refusal::Rank);
     }
     engine_filing::file_in(store, text, rank as u8)
 }
 
 // A station settled: refused 9, 6.
-pub fn settle(store: &mut [u8], station: u32) -> Reply
+pub fn settle(store: &mut [u8], station: u32) -> Result<(), Refusal>
     ensures { Did (step (Calls.settle station) store.old) (reply result) store.new }
 {
-    match locate(store, station) {
-        Located::Unsound => Reply::Refused(9),
-        Located::Absent => Reply::Refused(6),
-        Located::At(index) => {
-            engine_settling::settle_at(store, index);
-            Reply::Accepted
-        }
-    }
+    let index = locate(store, station)?;
+    engine_settling::settle_at(store, index);
+    Ok(())
 }
 
 // A settling in portions begun, whatever there was of one: refused 9, 6.
-pub fn begin(store: &mut [u8], station: u32) -> Reply
+pub fn begin(store: &mut [u8], station: u32) -> Result<(), Refusal>
     ensures { Did (step (Calls.begin station) store.old) (reply result) store.new }
 {
-    match locate(store, station) {
-        Located::Unsound => Reply::Refused(9),
-        Located::Absent => Reply::Refused(6),
-        Located::At(index) => {
-            engine_portions::begin_at(store, index);
-            Reply::Accepted
-        }
-    }
+    let index = locate(store, station)?;
+    engine_portions::begin_at(store, index);
+    Ok(())
 }
 
 // The step of it that is due, one of range, internal, time and fill: refused 9, 6, 14.
-pub fn step(store: &mut [u8], station: u32) -> Reply
+pub fn step(store: &mut [u8], station: u32) -> Result<(), Refusal>
     ensures { Did (Step.step (Calls.step station) store.old) (reply result) store.new }
 {
-    match locate(store, station) {
-        Located::Unsound => Reply::Refused(9),
-        Located::Absent => Reply::Refused(6), // before 14
-        Located::At(index) => engine_portions::step_at(store, index),
-    }
+    let index = locate(store, station)?; // 6 before 14
+    engine_portions::step_at(store, index)
 }
 
 // One checked cell of a station, by element (0 to 8) and slot: refused 9, 6, 12, 11.
-pub fn cell(store: &[u8], station: u32, element: u32, slot: u32) -> CellReply
+pub fn cell(store: &[u8], station: u32, element: u32, slot: u32) -> Result<Cell, Refusal>
     ensures { cell_reply result ≡ (step (Calls.cell station element slot) store.now).answer }
 {
-    match locate(store, station) {
-        Located::Unsound => CellReply::Refused(9),
-        Located::Absent => CellReply::Refused(6),
-        Located::At(index) => engine_reading::give_cell(store, index, element, slot),
-    }
+    let index = locate(store, station)?;
+    engine_reading::give_cell(store, index, element, slot)
 }
 
 // The day line of a station: refused 9, 6, 11.
-pub fn day(store: &[u8], station: u32) -> DayReply
+pub fn day(store: &[u8], station: u32) -> Result<DayLine, Refusal>
     ensures { SaysDay result (step (Calls.day station) store.now).answer }
 {
-    match locate(store, station) {
-        Located::Unsound => DayReply::Refused(9),
-        Located::Absent => DayReply::Refused(6),
-        Located::At(index) => engine_reading::give_day(store, index),
-    }
+    let index = locate(store, station)?;
+    engine_reading::give_day(store, index)
 }

@@ -3,19 +3,19 @@ use borrow.Author.Rules.{rules}
 use mathlib.Core.Path.{refl}
 use Rattle.rules.specs.Calls.{stepping}
 use Rattle.rules.specs.Rules.{rule}
+use Rattle.std.proofs.lemmas.Result.{err_from_is_err_and}
 use Rattle.engine_answers.proofs.Stores.{known}
-use Rattle.engine.proofs.Located.{found_good, unsound_did, absent_did, found_did}
+use Rattle.engine.proofs.Located.{found_station, missing_did, found_did}
 use Rattle.engine.proofs.step.Goals as goal
 
 pub step_at-requires : goal.step_at-requires
-step_at-requires c = found_good _ _ c.locate.ensures c.in-At.is (known (λ k. search rules))
+step_at-requires c = found_station _ _ c.in_ok-index.ensures (known (λ k. search rules))
 
-pub returns-in-Unsound : goal.returns-in-Unsound
-returns-in-Unsound c = unsound_did _ _ c.locate.ensures _ c.in-Unsound.is
+pub returns-in_err-index : goal.returns-in_err-index
+returns-in_err-index c =
+    let p = err_from_is_err_and c.from_residual.result c.from_residual.ensures.1 in
+    rw (p.1, p.2) (missing_did _ _ _ stepping refl c.in_err-index.ensures)
 
-pub returns-in-Absent : goal.returns-in-Absent
-returns-in-Absent c = absent_did _ _ c.locate.ensures _ stepping refl c.in-Absent.is
-
-pub returns-in-At : goal.returns-in-At
+pub returns : goal.returns
 unfolding rule
-returns-in-At c = found_did _ _ c.locate.ensures _ stepping refl c.in-At.is c.step_at.ensures
+returns c = found_did _ _ _ stepping refl c.in_ok-index.ensures c.step_at.ensures
