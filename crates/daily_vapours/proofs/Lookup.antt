@@ -3,7 +3,7 @@
 use mathlib.Core.Path.{◌≡◌, sym, ◌∙◌, ap, subst}
 use mathlib.Core.Bool.{true, false}
 use mathlib.Core.List.{List, map}
-use mathlib.Core.Option.{Option, none, some}
+use Rattle.std.specs.Prelude.{Option, None, Some}
 use Prim.Native.Nat.{ℕ, ◌+◌, ◌-◌, ◌*◌, ◌/◌, ◌<◌, ◌≤◌}
 use native.Mathlib.Nat.{mul-le-mul_left}
 use native.Mathlib.Omega.{arith}
@@ -11,9 +11,8 @@ use lib.ListN.{length, get_or, length-map}
 use Rattle.laws.proofs.Bools.{cond_true}
 use Rattle.laws.proofs.Differences.{from_zero, size_above}
 use Rattle.laws.proofs.Maps.{map_at}
-use Rattle.vapour.specs.declared.answer.Pressure.{Pressure}
 use Rattle.vapour.specs.Vapour.{pressure}
-use Rattle.vapour.specs.Answer.{told, pressure_at}
+use Rattle.vapour.specs.Answer.{pressure_at}
 use Rattle.quality.specs.declared.column.Column.{Column}
 use Rattle.quality.specs.Cell.{Cell, missing, is_humidity, discarded, slot}
 use Rattle.quality.specs.Coded.{cell_of, cells}
@@ -39,19 +38,19 @@ module _ (s f v : ℕ) (d : Cell) where
 
   module _ (h : missing (cell_of s f v) ≡ false) where
     -- an entry of the table
-    pub entry : (e r : ℕ) → pressure_at v ≡ some e → r ≡ share d e → cell_of s f (32768 + r) ≡ vapour_at (cell_of s f v) d
+    pub entry : (e r : ℕ) → pressure_at v ≡ Some e → r ≡ share d e → cell_of s f (32768 + r) ≡ vapour_at (cell_of s f v) d
     entry e r g q = rw (h, g, ← q, from_zero 32768 r)
 
     -- outside the table
-    pub outside : pressure_at v ≡ none → discarded 0 ≡ vapour_at (cell_of s f v) d
+    pub outside : pressure_at v ≡ None → discarded 0 ≡ vapour_at (cell_of s f v) d
     outside g = rw (h, g)
 
 -- the answer at slot k, of the nine that a column's values get
-pub at_slot : (c : Column) (ps : List Pressure) (k : ℕ) (d : Cell) (z : Pressure) → map told ps ≡ map pressure_at c.values → d ≡ slot (cells c) k → k < 9
-    → k < length ps → told (get_or ps k z) ≡ pressure d.value
+pub at_slot : (c : Column) (ps : List (Option ℕ)) (k : ℕ) (d : Cell) (z : Option ℕ) → ps ≡ map pressure_at c.values → d ≡ slot (cells c) k → k < 9
+    → k < length ps → get_or ps k z ≡ pressure d.value
 at_slot c ps k d z e h l m =
-    sym (map_at told ps k z none m) ∙ ap (λ (os : List (Option ℕ)). get_or os k none) e ∙ map_at pressure_at c.values k 0 none (subst (λ (n : ℕ). k < n) long m)
+    ap (λ (os : List (Option ℕ)). get_or os k z) e ∙ map_at pressure_at c.values k 0 z (subst (λ (n : ℕ). k < n) long m)
     ∙ sym (ap (λ (x : Cell). pressure x.value) (h ∙ slot_cells c k l))
   where
     long : length ps ≡ length c.values
-    long = sym (length-map ps told) ∙ ap length e ∙ length-map c.values pressure_at
+    long = ap length e ∙ length-map c.values pressure_at

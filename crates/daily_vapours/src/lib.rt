@@ -8,10 +8,9 @@ ghost use Rattle.quality.specs.Coded.{cell, cells};
 ghost use Rattle.quality.specs.Elements.{dew_point};
 ghost use Rattle.quality.specs.Valid.{ValidCell, ValidColumn};
 ghost use Rattle.daily.specs.Means as means;
-ghost use Rattle.vapour.specs.Answer.{told, pressure_at};
+ghost use Rattle.vapour.specs.Answer.{pressure_at};
 
 use quality::column::{Column, OffsetCell, at, discard, is_humidity, is_missing};
-use vapour::Pressure;
 
 // The cell at whose value the table is read: D's, or T's where D's is a humidity.
 fn basis(t: OffsetCell, d: OffsetCell) -> OffsetCell
@@ -49,20 +48,20 @@ fn share(d: OffsetCell, e: u16) -> u16
 }
 
 // The vapour pressure of a slot with D's cell d, where p is that at b's value, with b's state.
-fn vapour_cell(b: OffsetCell, d: OffsetCell, p: Pressure) -> OffsetCell
-    requires { ValidCell dew_point (cell d) × (told p ≡ pressure_at b.value) }
+fn vapour_cell(b: OffsetCell, d: OffsetCell, p: Option<u16>) -> OffsetCell
+    requires { ValidCell dew_point (cell d) × (p ≡ pressure_at b.value) }
     ensures { cell result ≡ means.vapour_at (cell b) (cell d) }
 {
     if is_missing(b) {
         return discard(0);
     }
     match p {
-        Pressure::Hundredths(e) => OffsetCell {
+        Some(e) => OffsetCell {
             state: b.state,
             flag: b.flag,
             value: 32768 + share(d, e),
         },
-        Pressure::Missing => discard(0),
+        None => discard(0),
     }
 }
 

@@ -1,10 +1,9 @@
 -- `daily_vapours::vapour_cell` meets its contract.
-use mathlib.Core.Path.{◌∙◌, ap, sym}
+use mathlib.Core.Path.{◌∙◌, sym}
 use native.Mathlib.Omega.{arith}
 use Rattle.laws.proofs.Bools.{via}
 use Rattle.quality.specs.Coded.{cell}
 use Rattle.vapour.proofs.Most.{pressure_most}
-use Rattle.vapour.specs.Answer.{told}
 use Rattle.daily_vapours.proofs.Lookup.{no_basis, entry, outside}
 use Rattle.daily_vapours.proofs.vapour_cell.Goals as goal
 
@@ -16,17 +15,17 @@ returns-then-is_missing c =
 pub share-requires : goal.share-requires
 share-requires c =
     let o = c.requires in
-    (o.0, omega (arith, pressure_most _ _ (sym o.1 ∙ ap told c.in-Hundredths.is)))
+    (o.0, omega (arith, pressure_most _ _ (sym o.1 ∙ c.in-Some.is)))
 
-pub returns-in-Hundredths : goal.returns-in-Hundredths
-returns-in-Hundredths c =
+pub returns-in-Some : goal.returns-in-Some
+returns-in-Some c =
     let a = c.args in
-    entry a.b.state a.b.flag a.b.value (cell a.d) (via c.is_missing.ensures c.if-is_missing.false) c.in-Hundredths.e c.share.result
-    (sym c.requires.1 ∙ ap told c.in-Hundredths.is) c.share.ensures.0
+    entry a.b.state a.b.flag a.b.value (cell a.d) (via c.is_missing.ensures c.if-is_missing.false) c.in-Some.e c.share.result
+    (sym c.requires.1 ∙ c.in-Some.is) c.share.ensures.0
 
-pub returns-in-Missing : goal.returns-in-Missing
-returns-in-Missing c =
+pub returns-in-None : goal.returns-in-None
+returns-in-None c =
     let a = c.args in
-    c.discard-in-Missing.ensures
+    c.discard-in-None.ensures
     ∙ outside a.b.state a.b.flag a.b.value (cell a.d) (via c.is_missing.ensures c.if-is_missing.false)
-    (sym c.requires.1 ∙ ap told c.in-Missing.is)
+    (sym c.requires.1 ∙ c.in-None.is)
