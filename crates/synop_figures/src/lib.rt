@@ -138,10 +138,7 @@ pub fn rain(part: Option<Characters>) -> Option<u16>
 fn duration_of(t: u8) -> u8
     ensures { result ≡ indicators.rain_duration_of t }
 {
-    match digit(t) {
-        Some(n) => n as u8,
-        None => 0,
-    }
+    digit(t).unwrap_or(0) as u8
 }
 
 // tR, from 6RRRtR: 0 where it is `/` or R is missing.
@@ -160,10 +157,7 @@ pub fn rain_duration(part: Option<Characters>) -> u8
 pub fn rain_indicator(part: Option<Characters>) -> u8
     ensures { result ≡ group.rain_indicator part }
 {
-    match part.and_then(|x| digit(x.a)) {
-        Some(n) => indicator_of(n),
-        None => 5,
-    }
+    part.and_then(|x| digit(x.a)).map_or(5, indicator_of)
 }
 
 // dd, from Nddff: 0 to 36 or 99, else 100.
@@ -171,8 +165,5 @@ pub fn rain_indicator(part: Option<Characters>) -> u8
 pub fn wind_direction(wind: Option<Characters>) -> u8
     ensures { result ≡ group.wind_direction wind }
 {
-    match wind.and_then(|x| two(x.b, x.c)) {
-        Some(n) => direction_of(n),
-        None => 100,
-    }
+    wind.and_then(|x| two(x.b, x.c)).map_or(100, direction_of)
 }
