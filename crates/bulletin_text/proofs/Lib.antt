@@ -1,4 +1,3 @@
 -- Laws that the proofs of bulletins cite.
 pub mod Cuts
-pub mod Buffer
-pub mod Headings
+pub mod Squeezed

@@ -3,141 +3,86 @@
 
 ghost use Rattle.std.specs.Prelude.{◌≡◌};
 ghost use Rattle.synop_text.specs.Groups.{groups};
-ghost use Rattle.synop_text.specs.Kinds.{on_five};
-ghost use Rattle.bulletin_text.specs.declared.Heading.TheVariants.{Faulty};
-ghost use Rattle.bulletin_text.specs.Heading.{time_of, heading_of, Begins};
+ghost use Rattle.bulletin_text.specs.Heading.{heading_of, Begins};
 ghost use Rattle.bulletin_text.specs.Pieces.{none};
 ghost use Rattle.bulletin_text.specs.Rebuilt.{spaced, heading};
-ghost use Rattle.text_bytes.specs.Written.{Holds, Adds};
+ghost use Rattle.text_bytes.specs.Written.{Adds};
 
+use arrayvec::ArrayVec;
+use refusals::Refusal;
+use synop_checks::{ranged, shaped};
 use synop_order::Place;
-use synop_text::{Cursor, Group, Step};
+use synop_text::{Characters, Cursor, Group, Span, kind_of};
 use text_bytes::{put, put_all};
 
-// A heading: refused with a number, or the characters of YYGGiw.
-#[derive(Clone, Copy)]
-pub enum Heading {
-    Faulty(u32),
-    Timed(u8, u8, u8, u8, u8),
-}
-
-// The heading of a bulletin, and where its reports begin.
-#[derive(Clone, Copy)]
+// The characters of a bulletin's YYGGiw, and where its reports begin.
+#[derive(Clone, Copy, Debug, PartialEq, Eq)]
 pub struct Start {
-    pub heading: Heading,
+    pub time: Characters,
     pub at: usize,
 }
 
 // ---- the heading
 
-// YYGGiw by its characters: check 3, then 4.
-fn time_of(a: u8, b: u8, c: u8, d: u8, e: u8) -> Heading
-    ensures { result ≡ time_of a b c d e }
-{
-    let time = Group::Five(a, b, c, d, e);
-    if synop_checks::shaped(Place::Letters, time) {
-        if synop_checks::ranged(Place::Letters, time) {
-            return Heading::Timed(a, b, c, d, e);
-        }
-        return Heading::Faulty(4);
-    }
-    Heading::Faulty(3)
-}
-
-// The group after `AAXX`.
-fn second(g: Group) -> Heading
-    ensures { result ≡ on_five (Faulty 3) time_of g }
-{
-    match g {
-        Group::Other => Heading::Faulty(3),
-        Group::Aaxx => Heading::Faulty(3),
-        Group::Nil => Heading::Faulty(3),
-        Group::Section(_) => Heading::Faulty(3),
-        Group::Five(a, b, c, d, e) => time_of(a, b, c, d, e),
-    }
-}
-
-// The first two groups of a bulletin.
-fn heading_of(g: Group, h: Group) -> Heading
+// The first two groups of a bulletin: check 3, then 4.
+#[tactic(auto, unfolding(crate::specs::Heading::heading_of, crate::specs::Heading::time_of))]
+fn heading_of(g: Group, h: Group) -> Result<Characters, Refusal>
     ensures { result ≡ heading_of g h }
 {
-    if synop_checks::shaped(Place::Start, g) {
-        return second(h);
+    let Group::Five(time) = h else {
+        return Err(Refusal::Shape);
+    };
+    if !(shaped(Place::Start, g) & shaped(Place::Letters, h)) {
+        return Err(Refusal::Shape);
     }
-    Heading::Faulty(3)
+    if !ranged(Place::Letters, h) {
+        return Err(Refusal::OutOfRange);
+    }
+    Ok(time)
 }
 
 // The heading that a bulletin's first piece begins with.
-pub fn start_of(piece: &[u8]) -> Start
-    ensures { Begins piece.now result.heading result.at }
+pub fn start_of(piece: &[u8]) -> Result<Start, Refusal>
+    ensures { Begins piece.now result }
 {
-    let Step::Group { start, end, next } = Cursor::new().step(piece) else {
-        return Start {
-            heading: Heading::Faulty(3),
-            at: 0,
-        };
-    };
-    let g = synop_text::kind_of(&piece[start..end]);
-    let Step::Group {
-        start: from,
-        end: to,
-        next: after,
-    } = next.step(piece)
-    else {
-        return Start {
-            heading: Heading::Faulty(3),
-            at: next.at,
-        };
-    };
-    let h = synop_text::kind_of(&piece[from..to]);
-    Start {
-        heading: heading_of(g, h),
-        at: after.at,
-    }
+    let first = Cursor::new().step(piece).ok_or(Refusal::Shape)?;
+    let second = Cursor { at: first.end }.step(piece).ok_or(Refusal::Shape)?;
+    let g = kind_of(&piece[first.start..first.end]);
+    let h = kind_of(&piece[second.start..second.end]);
+    Ok(Start {
+        time: heading_of(g, h)?,
+        at: second.end,
+    })
 }
 
 // ---- the reports
 
-// The groups of a piece, each after a space, behind the n bytes that the buffer holds.
-pub fn squeeze(buf: &mut [u8], n: usize, piece: &[u8]) -> usize
-    ensures { Adds buf.old n buf.new result (spaced (groups piece.now)) }
+// The groups of a piece, each after a space, behind the text that is there.
+pub fn squeeze<const N: usize>(text: &mut ArrayVec<u8, N>, piece: &[u8])
+    ensures { Adds N text.old.items text.new.items (spaced (groups piece.now)) }
 {
-    let mut m = n;
-    let mut c = Cursor::new();
-    loop {
-        let Step::Group { start, end, next } = c.step(piece) else {
-            return m;
-        };
-        let k = put(buf, m, b' ');
-        m = put_all(buf, k, &piece[start..end]);
-        c = next;
+    let mut cursor = Cursor::new();
+    while let Some(Span { start, end }) = cursor.step(piece) {
+        put(text, b' ');
+        put_all(text, &piece[start..end]);
+        cursor = Cursor { at: end };
     }
 }
 
-// A buffer with the heading in it. It has one byte more than the longest report that is not refused for its length.
-pub fn begin(a: u8, b: u8, c: u8, d: u8, e: u8) -> [u8; 513]
-    ensures { Holds result 10 (heading a b c d e) }
+// A text with the heading in it. It has room for one byte more than the longest report that is not refused for its length.
+pub fn begin(time: Characters) -> ArrayVec<u8, 513>
+    ensures { result.items ≡ heading time }
 {
-    let mut buf = [0u8; 513];
-    buf[0] = b'A';
-    buf[1] = b'A';
-    buf[2] = b'X';
-    buf[3] = b'X';
-    buf[4] = b' ';
-    buf[5] = a;
-    buf[6] = b;
-    buf[7] = c;
-    buf[8] = d;
-    buf[9] = e;
-    buf
+    let Characters { a, b, c, d, e } = time;
+    let mut text = ArrayVec::new();
+    put_all(&mut text, b"AAXX ");
+    put_all(&mut text, &[a, b, c, d, e]);
+    text
 }
 
 // Whether a piece has no groups.
 pub fn is_blank(piece: &[u8]) -> bool
     ensures { result ≡ none (groups piece.now) }
 {
-    match Cursor::new().step(piece) {
-        Step::End => true,
-        Step::Group { start, end, next } => false,
-    }
+    Cursor::new().step(piece).is_none()
 }
