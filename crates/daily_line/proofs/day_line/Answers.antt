@@ -7,7 +7,6 @@ use lib.ListN.{length}
 use Rattle.quality.specs.Cell.{Cell}
 use Rattle.quality.specs.Elements.{dew_point}
 use Rattle.quality.specs.Valid.{ValidColumn}
-use Rattle.daily.specs.Coded.{rain_of, slot_of}
 use Rattle.daily.specs.Extremes.{coldest, warmest}
 use Rattle.daily.specs.Line.{day_line}
 use Rattle.daily.specs.Rain.{rain_total}
@@ -31,9 +30,9 @@ returns c =
       wind = says_column a.checked long 3 _ (lit< tt) c.mean-4.ensures;
       cloud = says_column a.checked long 4 _ (lit< tt) c.mean-5.ensures;
       vapour = says_vapour a.checked long 0 1 _ _ _ (lit< tt) (lit< tt) c.vapour_column.ensures c.mean-6.ensures;
-      rain = c.rain_total.ensures ∙ ap (λ (xs : List Cell). rain_of (rain_total a.heads xs)) (col a.checked long 6 _ (lit< tt));
-      warmest = c.extreme.ensures ∙ ap (λ (xs : List Cell). slot_of (warmest xs)) (col a.checked long 0 _ (lit< tt));
-      coldest = c.extreme-2.ensures ∙ ap (λ (xs : List Cell). slot_of (coldest xs)) (col a.checked long 0 _ (lit< tt));
+      rain = c.rain_total.ensures ∙ ap (λ (xs : List Cell). rain_total a.heads xs) (col a.checked long 6 _ (lit< tt));
+      warmest = c.extreme.ensures ∙ ap (λ (xs : List Cell). warmest xs) (col a.checked long 0 _ (lit< tt));
+      coldest = c.extreme-2.ensures ∙ ap (λ (xs : List Cell). coldest xs) (col a.checked long 0 _ (lit< tt));
       read = c.count.ensures;
       corrected = c.count-2.ensures;
       filled = c.count-3.ensures;
