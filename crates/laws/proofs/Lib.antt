@@ -3,6 +3,7 @@ pub mod Rules
 pub mod Bools
 pub mod Every
 pub mod Tables
+pub mod Positions
 pub mod Fill
 pub mod Maps
 pub mod Offset

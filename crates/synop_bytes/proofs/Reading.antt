@@ -6,14 +6,15 @@ use mathlib.Core.List.{List, [], ◌∷◌}
 use Prim.Native.Nat.{ℕ, suc, ◌+◌, ◌<◌, ◌≤◌}
 use native.Mathlib.Numerals.{add-one}
 use native.Mathlib.Omega.{arith}
-use lib.Dec.{eqb, ltb}
+use lib.Dec.{eqb}
 use lib.ListN.{length, drop, get_or, drop_of_length-le}
 use lib.Seq.{drop-cons}
 use Rattle.std.specs.Prelude.{None, Some}
 use Rattle.std.specs.List.{position, position_or_len}
-use borrow.Author.Tests.{ne_eqb, ltb-false}
+use borrow.Author.Tests.{ne_eqb}
 use Rattle.laws.proofs.Bools.{is_true, is_false, known}
 use Rattle.laws.proofs.Offset.{eqb_agrees}
+use Rattle.laws.proofs.Positions.{position_some, position_none}
 use Rattle.synop_bytes.specs.Bytes.{ended, is_known, check2}
 
 -- what is left from i on is the byte at i and what is left after it
@@ -34,18 +35,11 @@ ended_at (b ∷ s) =
     ]
 
 pub ended_some : (s : List ℕ) (i : ℕ) → position (λ b. eqb b 61) s ≡ Some i → ended s ≡ eqb (i + 1) (length s)
-ended_some s i e =
-    elim (known (ltb (end_of s) (length s))) [
-      | is_true t ↦ let q : Some (end_of s) ≡ Some i = rw t at e in let p : end_of s ≡ i = cc in ended_at s ∙ ap (λ (n : ℕ). eqb (n + 1) (length s)) p
-      | is_false f ↦ let q : None ≡ Some i = rw f at e in let z : ◌≡◌ {A = ℕ} 0 1 = cc in absurd (omega arith)
-    ]
+ended_some s i e = ended_at s ∙ ap (λ (n : ℕ). eqb (n + 1) (length s)) (sym (position_some (λ b. eqb b 61) s i e).0)
 
 pub ended_none : (s : List ℕ) → position (λ b. eqb b 61) s ≡ None → ended s ≡ false
 ended_none s e =
-    elim (known (ltb (end_of s) (length s))) [
-      | is_true t ↦ let q : Some (end_of s) ≡ None = rw t at e in let z : ◌≡◌ {A = ℕ} 0 1 = cc in absurd (omega arith)
-      | is_false f ↦ ended_at s ∙ ne_eqb (end_of s + 1) (length s) (λ h. omega (arith, ltb-false (end_of s) (length s) f))
-    ]
+    let p = position_none (λ b. eqb b 61) s e in ended_at s ∙ ne_eqb (end_of s + 1) (length s) (λ h. omega arith)
 
 -- ---- the bytes before i are known or not
 pub record Knowing (s : List ℕ) (known : Bool) (i : ℕ) : Type 0 where

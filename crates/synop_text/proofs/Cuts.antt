@@ -5,7 +5,7 @@ use mathlib.Core.Bool.{true, false, not}
 use mathlib.Core.List.{List, [], ◌∷◌, ◌++◌, append-nil, append_assoc}
 use Prim.Native.Nat.{ℕ, suc, ◌+◌, ◌<◌, ◌≤◌}
 use native.Mathlib.Omega.{arith}
-use borrow.Author.Tests.{ltb-true, ltb-false}
+use borrow.Author.Tests.{ltb-false}
 use lib.Dec.{ltb}
 use lib.ListN.{length, take, drop, drop_of_length-le, length-drop}
 use lib.Seq.{take-length}
@@ -15,18 +15,19 @@ use Rattle.std.specs.Option.{unwrap_or}
 use Rattle.std.specs.List.{position, position_or_len}
 use Rattle.std.proofs.lemmas.List.Sums.{prefix_len-le-length}
 use Rattle.laws.proofs.Bools.{is_true, is_false, known}
+use Rattle.laws.proofs.Positions.{position_some, position_none}
 use Rattle.synop_text.specs.Characters.{parts}
 use Rattle.synop_text.specs.Groups.{cut, groups, closed}
 use Rattle.synop_text.specs.Walk.{Bounds}
 
 -- the characters before the next group, and those of the group
-abbrev pub gap_of : List ℕ → ℕ
+abbrev gap_of : List ℕ → ℕ
 gap_of s = position_or_len (λ b. not (parts b)) s
 
-abbrev pub run_of : List ℕ → ℕ
+abbrev run_of : List ℕ → ℕ
 run_of s = position_or_len parts s
 
--- the next blank, the first character known
+-- each, and the groups, one character further
 run_blank : (b : ℕ) (s : List ℕ) → parts b ≡ true → run_of (b ∷ s) ≡ 0
 run_blank b s t = rw t
 
@@ -51,7 +52,7 @@ cut_end : (read : List ℕ) → cut read [] ≡ closed (read ++ []) (groups [])
 unfolding cut
 cut_end read = ap (λ (r : List ℕ). closed r []) (sym (append-nil read))
 
-pub no_text : groups [] ≡ []
+no_text : groups [] ≡ []
 unfolding cut
 no_text = refl
 
@@ -65,12 +66,13 @@ past_run read (b ∷ s) =
           rw (run_more b s f, cut_more read b s f) (past_run (read ++ b ∷ []) s ∙ ap (λ (r : List ℕ). closed r (groups (drop (run_of s) s))) (append_assoc read (b ∷ []) (take (run_of s) s)))
     ]
 
--- the text from `start` on begins with a group, which is the first of s
-pub record Starts (s rest : List ℕ) : Type 0 where
-  pub some : 0 < run_of rest
-  pub first : groups s ≡ take (run_of rest) rest ∷ groups (drop (run_of rest) rest)
+-- `rest` begins with a group, which is the first of s
+record Starts (s rest : List ℕ) : Type 0 where
+  some : 0 < run_of rest
+  first : groups s ≡ take (run_of rest) rest ∷ groups (drop (run_of rest) rest)
 
-pub starts : (s : List ℕ) → gap_of s < length s → Starts s (drop (gap_of s) s)
+-- past the blanks a text begins with its first group
+starts : (s : List ℕ) → gap_of s < length s → Starts s (drop (gap_of s) s)
 starts [] h = absurd (omega arith)
 starts (b ∷ s) h =
     elim (known (parts b)) [
@@ -80,8 +82,8 @@ starts (b ∷ s) h =
           rw (gap_none b s f) (record { some = rw (run_more b s f) (omega arith); first = cut_more [] b s f ∙ past_run (b ∷ []) s ∙ rw (run_more b s f) refl })
     ]
 
--- and a text in which no group starts has none
-pub no_group : (s : List ℕ) → length s ≤ gap_of s → groups s ≡ []
+-- a text in which no group starts has none
+no_group : (s : List ℕ) → length s ≤ gap_of s → groups s ≡ []
 no_group [] h = no_text
 no_group (b ∷ s) h =
     elim (known (parts b)) [
@@ -106,20 +108,8 @@ none_left s at h = rw (drop_of_length-le s h) no_text
 tail : (s : List ℕ) (at : ℕ) → slice_range s at (length s) ≡ drop at s
 tail s at = ap (λ (n : ℕ). take n (drop at s)) (sym (length-drop at s)) ∙ take-length (drop at s)
 
--- what the code found in it, at the place where a group starts
-placed : (s : List ℕ) (j : ℕ) → position (λ b. not (parts b)) s ≡ Some j → (j ≡ gap_of s) × (gap_of s < length s)
-placed s j e =
-    elim (known (ltb (gap_of s) (length s))) [
-      | is_true t ↦ let q : Some (gap_of s) ≡ Some j = rw t at e in (cc, ltb-true (gap_of s) (length s) t)
-      | is_false f ↦ let q : None ≡ Some j = rw f at e in let z : ◌≡◌ {A = ℕ} 0 1 = cc in absurd (omega arith)
-    ]
-
 pub none_after : (s rest : List ℕ) (at : ℕ) → rest ≡ slice_range s at (length s) → position (λ b. not (parts b)) rest ≡ None → groups (drop at s) ≡ []
-none_after s rest at r e =
-    elim (known (ltb (gap_of rest) (length rest))) [
-      | is_true t ↦ let q : Some (gap_of rest) ≡ None = rw t at e in let z : ◌≡◌ {A = ℕ} 0 1 = cc in absurd (omega arith)
-      | is_false f ↦ ap groups (sym (r ∙ tail s at)) ∙ no_group rest (ltb-false (gap_of rest) (length rest) f)
-    ]
+none_after s rest at r e = ap groups (sym (r ∙ tail s at)) ∙ no_group rest (position_none (λ b. not (parts b)) rest e)
 
 -- a step
 bounds : (s : List ℕ) (at start n : ℕ) → at ≤ start → start ≤ length s → Starts (drop at s) (drop start s) → n ≡ run_of (drop start s) → Bounds s at start (start + n)
@@ -135,7 +125,7 @@ pub stepped : (s rest : List ℕ) (at j n : ℕ) → rest ≡ slice_range s at (
 stepped s rest at j n r e h = bounds s at (at + j) n (omega arith) (omega (arith, p, ap length from, length-drop at s)) here (h ∙ run_is (slice_range s (at + j) (length s)) ∙ ap run_of (tail s (at + j)))
   where
     p : (j ≡ gap_of rest) × (gap_of rest < length rest)
-    p = placed rest j e
+    p = position_some (λ b. not (parts b)) rest j e
 
     from : rest ≡ drop at s
     from = r ∙ tail s at
