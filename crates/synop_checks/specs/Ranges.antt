@@ -2,10 +2,11 @@
 -- Assumes nothing.
 use Rattle.std.specs.Prelude.{Bool, true, false, not, ◌&&◌, ◌||◌, List, [], ◌∷◌, ℕ, leb, eqb}
 use Rattle.synop_figures.specs.Digits.{two, given}
+use Rattle.synop_text.specs.declared.Characters.{Characters}
 use Rattle.synop_text.specs.declared.Group.{Group}
 use Rattle.synop_text.specs.Kinds.{on_five}
 use Rattle.synop_order.specs.declared.Place.{Place}
-use Rattle.synop_order.specs.declared.Place.TheVariants.{Start, Letters, Time, Station, Nothing, Visibility, Wind, Gale, One, Later, Wrong}
+use Rattle.synop_order.specs.declared.Place.TheVariants.{Start, Letters, Time}
 use Rattle.synop_order.specs.Places.{next}
 
 -- YY 01 to 31
@@ -21,26 +22,18 @@ unfoldable pub is_unit : ℕ → Bool
 is_unit iw = ((eqb iw 48 || eqb iw 49) || eqb iw 51) || eqb iw 52
 
 -- YYGGiw
-unfoldable pub is_time : ℕ → ℕ → ℕ → ℕ → ℕ → Bool
-is_time a b c d e = (is_day a b && is_hour c d) && is_unit e
+unfoldable pub is_time : Characters → Bool
+is_time x = (is_day x.a x.b && is_hour x.c x.d) && is_unit x.e
 
 -- IIiii, any but 00000
-unfoldable pub is_station : ℕ → ℕ → ℕ → ℕ → ℕ → Bool
-is_station a b c d e = not ((((eqb a 48 && eqb b 48) && eqb c 48) && eqb d 48) && eqb e 48)
+unfoldable pub is_station : Characters → Bool
+is_station x = not ((((eqb x.a 48 && eqb x.b 48) && eqb x.c 48) && eqb x.d 48) && eqb x.e 48)
 
 -- five characters after a place
-abbrev pub five_ranged : Place → ℕ → ℕ → ℕ → ℕ → ℕ → Bool
-five_ranged Start a b c d e = true
-five_ranged Letters a b c d e = is_time a b c d e
-five_ranged Time a b c d e = is_station a b c d e
-five_ranged Station a b c d e = true
-five_ranged Nothing a b c d e = true
-five_ranged Visibility a b c d e = true
-five_ranged (Wind strong) a b c d e = true
-five_ranged Gale a b c d e = true
-five_ranged (One last) a b c d e = true
-five_ranged (Later n run) a b c d e = true
-five_ranged Wrong a b c d e = true
+abbrev pub five_ranged : Place → Characters → Bool
+five_ranged Letters x = is_time x
+five_ranged Time x = is_station x
+five_ranged _ x = true
 
 -- the range of the group after a place; one of another shape is refused by check 3 before
 abbrev pub ranged : Place → Group → Bool

@@ -5,44 +5,31 @@ ghost use Rattle.std.specs.Prelude.{◌≡◌};
 ghost use Rattle.synop_checks.specs.Ranges as ranges;
 ghost use Rattle.synop_checks.specs.Shapes as shapes;
 
-use synop_figures::Number;
+use synop_figures::two;
 use synop_order::Place;
-use synop_text::Group;
+use synop_text::{Characters, Group, is_digit};
 
 // ---- 3: a group's shape at its place
 
 fn is_aaxx(g: Group) -> bool
     ensures { result ≡ shapes.is_aaxx g }
 {
-    match g {
-        Group::Other => false,
-        Group::Aaxx => true,
-        Group::Nil => false,
-        Group::Section(_) => false,
-        Group::Five(_, _, _, _, _) => false,
-    }
+    matches!(g, Group::Aaxx)
 }
 
 #[tactic(auto, unfolding(crate::specs::Shapes::are_digits))]
-fn are_digits(a: u8, b: u8, c: u8, d: u8, e: u8) -> bool
-    ensures { result ≡ shapes.are_digits a b c d e }
+fn are_digits(x: Characters) -> bool
+    ensures { result ≡ shapes.are_digits x }
 {
-    synop_text::is_digit(a)
-        & synop_text::is_digit(b)
-        & synop_text::is_digit(c)
-        & synop_text::is_digit(d)
-        & synop_text::is_digit(e)
+    is_digit(x.a) & is_digit(x.b) & is_digit(x.c) & is_digit(x.d) & is_digit(x.e)
 }
 
 fn is_digits(g: Group) -> bool
     ensures { result ≡ shapes.is_digits g }
 {
     match g {
-        Group::Other => false,
-        Group::Aaxx => false,
-        Group::Nil => false,
-        Group::Section(_) => false,
-        Group::Five(a, b, c, d, e) => are_digits(a, b, c, d, e),
+        Group::Five(x) => are_digits(x),
+        _ => false,
     }
 }
 
@@ -52,10 +39,8 @@ fn is_group(nil: bool, g: Group) -> bool
 {
     match g {
         Group::Other => false,
-        Group::Aaxx => true,
         Group::Nil => nil,
-        Group::Section(_) => true,
-        Group::Five(_, _, _, _, _) => true,
+        Group::Aaxx | Group::Section(_) | Group::Five(_) => true,
     }
 }
 
@@ -65,16 +50,10 @@ pub fn shaped(p: Place, g: Group) -> bool
 {
     match p {
         Place::Start => is_aaxx(g),
-        Place::Letters => is_digits(g),
-        Place::Time => is_digits(g),
+        Place::Letters | Place::Time => is_digits(g),
         Place::Station => is_group(true, g),
         Place::Nothing => false,
-        Place::Visibility => is_group(false, g),
-        Place::Wind(_) => is_group(false, g),
-        Place::Gale => is_group(false, g),
-        Place::One(_) => is_group(false, g),
-        Place::Later(_, _) => is_group(false, g),
-        Place::Wrong => is_group(false, g),
+        _ => is_group(false, g),
     }
 }
 
@@ -85,10 +64,7 @@ pub fn shaped(p: Place, g: Group) -> bool
 fn is_day(a: u8, b: u8) -> bool
     ensures { result ≡ ranges.is_day a b }
 {
-    match synop_figures::two(a, b) {
-        Number::Slash => false,
-        Number::Digits(yy) => (1 <= yy) & (yy <= 31),
-    }
+    matches!(two(a, b), Some(1..=31))
 }
 
 // GG.
@@ -96,10 +72,7 @@ fn is_day(a: u8, b: u8) -> bool
 fn is_hour(a: u8, b: u8) -> bool
     ensures { result ≡ ranges.is_hour a b }
 {
-    match synop_figures::two(a, b) {
-        Number::Slash => false,
-        Number::Digits(gg) => gg <= 23,
-    }
+    matches!(two(a, b), Some(0..=23))
 }
 
 // iw.
@@ -107,41 +80,33 @@ fn is_hour(a: u8, b: u8) -> bool
 fn is_unit(iw: u8) -> bool
     ensures { result ≡ ranges.is_unit iw }
 {
-    (iw == b'0') | (iw == b'1') | (iw == b'3') | (iw == b'4')
+    matches!(iw, b'0' | b'1' | b'3' | b'4')
 }
 
 // YYGGiw.
 #[tactic(auto, unfolding(crate::specs::Ranges::is_time))]
-fn is_time(a: u8, b: u8, c: u8, d: u8, e: u8) -> bool
-    ensures { result ≡ ranges.is_time a b c d e }
+fn is_time(x: Characters) -> bool
+    ensures { result ≡ ranges.is_time x }
 {
-    is_day(a, b) & is_hour(c, d) & is_unit(e)
+    is_day(x.a, x.b) & is_hour(x.c, x.d) & is_unit(x.e)
 }
 
 // IIiii.
 #[tactic(auto, unfolding(crate::specs::Ranges::is_station))]
-fn is_station(a: u8, b: u8, c: u8, d: u8, e: u8) -> bool
-    ensures { result ≡ ranges.is_station a b c d e }
+fn is_station(x: Characters) -> bool
+    ensures { result ≡ ranges.is_station x }
 {
-    !((a == b'0') & (b == b'0') & (c == b'0') & (d == b'0') & (e == b'0'))
+    !((x.a == b'0') & (x.b == b'0') & (x.c == b'0') & (x.d == b'0') & (x.e == b'0'))
 }
 
 // Five characters after this place.
-fn five_ranged(p: Place, a: u8, b: u8, c: u8, d: u8, e: u8) -> bool
-    ensures { result ≡ ranges.five_ranged p a b c d e }
+fn five_ranged(p: Place, x: Characters) -> bool
+    ensures { result ≡ ranges.five_ranged p x }
 {
     match p {
-        Place::Start => true,
-        Place::Letters => is_time(a, b, c, d, e),
-        Place::Time => is_station(a, b, c, d, e),
-        Place::Station => true,
-        Place::Nothing => true,
-        Place::Visibility => true,
-        Place::Wind(_) => true,
-        Place::Gale => true,
-        Place::One(_) => true,
-        Place::Later(_, _) => true,
-        Place::Wrong => true,
+        Place::Letters => is_time(x),
+        Place::Time => is_station(x),
+        _ => true,
     }
 }
 
@@ -150,10 +115,7 @@ pub fn ranged(p: Place, g: Group) -> bool
     ensures { result ≡ ranges.ranged p g }
 {
     match g {
-        Group::Other => true,
-        Group::Aaxx => true,
-        Group::Nil => true,
-        Group::Section(_) => true,
-        Group::Five(a, b, c, d, e) => five_ranged(p, a, b, c, d, e),
+        Group::Five(x) => five_ranged(p, x),
+        _ => true,
     }
 }
