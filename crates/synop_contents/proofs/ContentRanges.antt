@@ -9,9 +9,11 @@ use Rattle.synop_codes.specs.Value.{Value, Within}
 use Rattle.synop_codes.proofs.CodeRanges.{Direction}
 use Rattle.synop_figures.specs.OneGroup as group
 use Rattle.synop_figures.proofs.FigureRanges as bounds
-use Rattle.synop_text.specs.declared.Group.{Group}
-use Rattle.synop_parts.specs.Parts as parts
-use Rattle.synop_parts.specs.Parts.{part, is_sent}
+use Rattle.std.specs.Prelude.{Option}
+use Rattle.std.specs.Option.{is_some}
+use Rattle.synop_text.specs.declared.Characters.{Characters}
+use Rattle.synop_parts.specs.Parts.{part}
+use Rattle.synop_parts.specs.declared.Part.TheVariants as which
 use Rattle.synop_contents.specs.Contents.{indicators_of, wind_of, values_of}
 use Rattle.synop_contents.specs.declared.Indicators.{Indicators}
 
@@ -31,38 +33,38 @@ pub record ValuesFit (vs : List Value) : Type 0 where
   pub each : AllWithin 0 vs
 
 -- ---- of any groups
-pub indicators_fit : (visibility wind rain : Group) → IndicatorsFit (indicators_of visibility wind rain)
+pub indicators_fit : (visibility wind rain : Option Characters) → IndicatorsFit (indicators_of visibility wind rain)
 unfolding indicators_of
 indicators_fit visibility wind rain =
     record { indicator = bounds.rain_indicator_range visibility; duration = bounds.rain_duration_range rain; direction = bounds.wind_direction_range wind }
 
-wind_within : (e : ℕ) (time wind gale : Group) → Within e (wind_of time wind gale)
+wind_within : (e : ℕ) (time wind gale : Option Characters) → Within e (wind_of time wind gale)
 unfolding wind_of
-wind_within e time wind gale = either (is_sent gale) (group.wind_fff time gale) (group.wind_ff time wind) (bounds.wind_fff_within e time gale) (bounds.wind_ff_within e time wind)
+wind_within e time wind gale = either (is_some gale) (group.wind_fff time gale) (group.wind_ff time wind) (bounds.wind_fff_within e time gale) (bounds.wind_ff_within e time wind)
   where
     either : (b : Bool) (v w : Value) → Within e v → Within e w → Within e (cond b v w)
     either true v w h k = h
     either false v w h k = k
 
-pub values_fit : (kept : List Group) (rain : Group) → ValuesFit (values_of kept rain)
+pub values_fit : (kept : List (Option Characters)) (rain : Option Characters) → ValuesFit (values_of kept rain)
 unfolding values_of
 values_fit kept rain =
     let g = part kept in
     record {
       nine = refl;
       each = (
-        bounds.temperature_within 0 (g parts.temperature),
+        bounds.temperature_within 0 (g which.Temperature),
         (
-          bounds.moisture_within (g parts.dew_point),
+          bounds.moisture_within (g which.DewPoint),
           (
-            bounds.pressure_within 2 (g parts.pressure),
+            bounds.pressure_within 2 (g which.Pressure),
             (
-              wind_within 3 (g parts.time) (g parts.wind) (g parts.gale),
+              wind_within 3 (g which.Time) (g which.Wind) (g which.Gale),
               (
-                bounds.cloud_within 4 (g parts.wind),
+                bounds.cloud_within 4 (g which.Wind),
                 (
-                  bounds.visibility_within 5 (g parts.visibility),
-                  (bounds.rain_within 6 rain, (bounds.temperature_within 7 (g parts.maximum), (bounds.temperature_within 8 (g parts.minimum), tt))),
+                  bounds.visibility_within 5 (g which.Visibility),
+                  (bounds.rain_within 6 rain, (bounds.temperature_within 7 (g which.Maximum), (bounds.temperature_within 8 (g which.Minimum), tt))),
                 ),
               ),
             ),

@@ -1,16 +1,21 @@
--- A number that some characters give is below a bound that holds of their digits.
+-- The number that digits give is below a power of ten; 0 is where one of them is no digit.
 -- Assumes nothing.
-use mathlib.Core.Path.{◌≡◌, sym, ◌∙◌, ap, subst}
 use Prim.Native.Nat.{ℕ, ◌<◌}
-use Rattle.synop_figures.specs.Digits.{Below}
-use Rattle.synop_figures.specs.declared.Number.{Number}
-use Rattle.synop_figures.specs.declared.Number.TheVariants.{Slash, Digits}
+use lib.Dec.{lit<}
+use Rattle.std.specs.Prelude.{Option, Some, None}
+use Rattle.synop_figures.specs.Digits.{Below, digit, two, four}
+use Rattle.synop_figures.proofs.Numbers.{digit_below, two_below, four_below}
 use Rattle.synop_contents.specs.Contents.{number_of}
 
-pub number_below : (k : ℕ) (n : Number) → 0 < k → Below k n → number_of n < k
-number_below k Slash p h = p
-number_below k (Digits n) p h = h
+number_below : (k : ℕ) (n : Option ℕ) → 0 < k → Below k n → number_of n < k
+number_below k None p h = p
+number_below k (Some n) p h = h
 
--- of what the code read, from what its calls ensure
-pub answer_below : {k r : ℕ} {m n : Number} → 0 < k → Below k m → n ≡ m → r ≡ number_of n → r < k
-answer_below {k} {r} {m} {n} p h e a = subst (λ (x : ℕ). x < k) (sym (a ∙ ap number_of e)) (number_below k m p h)
+pub digit_number : (c : ℕ) → number_of (digit c) < 10
+digit_number c = number_below 10 (digit c) (lit< tt) (digit_below c)
+
+pub two_number : (a b : ℕ) → number_of (two a b) < 100
+two_number a b = number_below 100 (two a b) (lit< tt) (two_below a b)
+
+pub four_number : (a b c d : ℕ) → number_of (four a b c d) < 10000
+four_number a b c d = number_below 10000 (four a b c d) (lit< tt) (four_below a b c d)

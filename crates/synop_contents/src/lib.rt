@@ -6,13 +6,10 @@ ghost use Rattle.std.specs.Prelude.{◌≡◌};
 ghost use Rattle.synop_codes.specs.Value.{meaning};
 ghost use Rattle.synop_contents.specs.Contents as contents;
 
-use synop_codes::{Moisture, Value};
-use synop_figures::{Characters, Number, characters_of};
-use synop_parts::{
-    DEW_POINT, GALE, MAXIMUM, MINIMUM, PARTS, PRESSURE, TEMPERATURE, TIME, VISIBILITY, WIND,
-    is_sent,
-};
-use synop_text::Group;
+use synop_codes::Moisture;
+use synop_figures::{digit, four, two};
+use synop_parts::{Part, Parts};
+use synop_text::Characters;
 
 // Who reports, and for when: IIiii, YY and GG.
 #[derive(Clone, Copy)]
@@ -23,6 +20,7 @@ pub struct Identification {
 }
 
 // What a report gives for the head of its slot: iR, whether a group 6 was sent, tR and dd.
+// What was not sent stays a number, iR 5, tR 0 and dd 100: these are the store's and the paper's, with a meaning and a place of their own.
 #[derive(Clone, Copy)]
 pub struct Indicators {
     pub rain_indicator: u8,
@@ -34,61 +32,55 @@ pub struct Indicators {
 // The nine elements, in the order of the store; the second is D, or a humidity in its place.
 #[derive(Clone, Copy)]
 pub struct Values {
-    pub temperature: Value,
-    pub moisture: Moisture,
-    pub pressure: Value,
-    pub wind: Value,
-    pub cloud: Value,
-    pub visibility: Value,
-    pub rain: Value,
-    pub maximum: Value,
-    pub minimum: Value,
-}
-
-fn number_of(n: Number) -> u32
-    ensures { result ≡ contents.number_of n }
-{
-    match n {
-        Number::Slash => 0,
-        Number::Digits(k) => k,
-    }
+    pub temperature: Option<u16>,
+    pub moisture: Option<Moisture>,
+    pub pressure: Option<u16>,
+    pub wind: Option<u16>,
+    pub cloud: Option<u16>,
+    pub visibility: Option<u16>,
+    pub rain: Option<u16>,
+    pub maximum: Option<u16>,
+    pub minimum: Option<u16>,
 }
 
 // A number of two digits.
-#[tactic(auto, unfolding(crate::specs::Contents::two_of))]
+#[tactic(auto, using(crate::proofs::Numbers::two_number), unfolding(crate::specs::Contents::two_of))]
 fn two_of(a: u8, b: u8) -> u8
     ensures { result ≡ contents.two_of a b }
 {
-    number_of(synop_figures::two(a, b)) as u8
+    two(a, b).unwrap_or(0) as u8
 }
 
 // IIiii.
-#[tactic(auto, unfolding(crate::specs::Contents::station_of))]
+#[tactic(auto, using(crate::proofs::Numbers::four_number, crate::proofs::Numbers::digit_number), unfolding(crate::specs::Contents::station_of))]
 fn station_of(x: Characters) -> u32
     ensures { result ≡ contents.station_of x }
 {
-    10 * number_of(synop_figures::four(x.a, x.b, x.c, x.d)) + number_of(synop_figures::digit(x.e))
+    10 * four(x.a, x.b, x.c, x.d).unwrap_or(0) + digit(x.e).unwrap_or(0)
 }
 
 #[tactic(auto, unfolding(crate::specs::Contents::identification_of))]
-pub fn identification_of(time: Group, station: Group) -> Identification
+pub fn identification_of(time: Option<Characters>, station: Option<Characters>) -> Identification
     ensures { result ≡ contents.identification_of time station }
 {
-    let x = characters_of(time);
     Identification {
-        station: station_of(characters_of(station)),
-        day: two_of(x.a, x.b),
-        hour: two_of(x.c, x.d),
+        station: station.map_or(0, station_of),
+        day: time.map_or(0, |x| two_of(x.a, x.b)),
+        hour: time.map_or(0, |x| two_of(x.c, x.d)),
     }
 }
 
 #[tactic(auto, unfolding(crate::specs::Contents::indicators_of))]
-pub fn indicators_of(visibility: Group, wind: Group, rain: Group) -> Indicators
+pub fn indicators_of(
+    visibility: Option<Characters>,
+    wind: Option<Characters>,
+    rain: Option<Characters>,
+) -> Indicators
     ensures { result ≡ contents.indicators_of visibility wind rain }
 {
     Indicators {
         rain_indicator: synop_figures::rain_indicator(visibility),
-        rain_sent: is_sent(rain),
+        rain_sent: rain.is_some(),
         rain_duration: synop_figures::rain_duration(rain),
         wind_direction: synop_figures::wind_direction(wind),
     }
@@ -96,10 +88,14 @@ pub fn indicators_of(visibility: Group, wind: Group, rain: Group) -> Indicators
 
 // W, from 00fff where it stands.
 #[tactic(auto, unfolding(crate::specs::Contents::wind_of))]
-fn wind_of(time: Group, wind: Group, gale: Group) -> Value
+fn wind_of(
+    time: Option<Characters>,
+    wind: Option<Characters>,
+    gale: Option<Characters>,
+) -> Option<u16>
     ensures { meaning result ≡ contents.wind_of time wind gale }
 {
-    if is_sent(gale) {
+    if gale.is_some() {
         return synop_figures::wind_fff(time, gale);
     }
     synop_figures::wind_ff(time, wind)
@@ -107,18 +103,19 @@ fn wind_of(time: Group, wind: Group, gale: Group) -> Value
 
 // The nine elements of a report's parts, where rain is read from the group `rain`.
 #[tactic(auto, unfolding(crate::specs::Contents::values_of))]
-pub fn values_of(kept: [Group; PARTS], rain: Group) -> Values
-    ensures { contents.listed result ≡ contents.values_of kept rain }
+pub fn values_of(kept: &Parts, rain: Option<Characters>) -> Values
+    ensures { contents.listed result ≡ contents.values_of kept.now.groups rain }
 {
+    let wind = kept.of(Part::Wind);
     Values {
-        temperature: synop_figures::temperature(kept[TEMPERATURE]),
-        moisture: synop_figures::moisture(kept[DEW_POINT]),
-        pressure: synop_figures::pressure(kept[PRESSURE]),
-        wind: wind_of(kept[TIME], kept[WIND], kept[GALE]),
-        cloud: synop_figures::cloud(kept[WIND]),
-        visibility: synop_figures::visibility(kept[VISIBILITY]),
+        temperature: synop_figures::temperature(kept.of(Part::Temperature)),
+        moisture: synop_figures::moisture(kept.of(Part::DewPoint)),
+        pressure: synop_figures::pressure(kept.of(Part::Pressure)),
+        wind: wind_of(kept.of(Part::Time), wind, kept.of(Part::Gale)),
+        cloud: synop_figures::cloud(wind),
+        visibility: synop_figures::visibility(kept.of(Part::Visibility)),
         rain: synop_figures::rain(rain),
-        maximum: synop_figures::temperature(kept[MAXIMUM]),
-        minimum: synop_figures::temperature(kept[MINIMUM]),
+        maximum: synop_figures::temperature(kept.of(Part::Maximum)),
+        minimum: synop_figures::temperature(kept.of(Part::Minimum)),
     }
 }
