@@ -18,6 +18,7 @@ use Rattle.synop_codes.specs.Value.{Value, missing, read, humidity}
 use Rattle.synop_text.specs.Characters.{are_figures}
 use Rattle.synop_text.specs.Groups.{cut}
 use Rattle.synop_text.specs.Kinds as kinds
+use Rattle.synop_text.specs.Kinds.{characters_of}
 use Rattle.synop_order.specs.Places as places
 use Rattle.synop_bytes.specs.Bytes.{ended, check1, is_known, check2}
 use Rattle.synop_checks.specs.Shapes.{are_digits, shaped_from}
@@ -73,5 +74,5 @@ pub record Examples : Type 0 where
   pub no_minimum : report (bytes "AAXX 11061 40001 3//// ///// 333 29050=") ≡ group_2 missing
 
 pub examples : Examples
-unfolding bytes bytes_from table two three four elements.temperature tables.temperature_of elements.moisture tables.moisture_of tables.humidity_of elements.pressure tables.pressure_of elements.wind_ff tables.wind_of elements.cloud tables.cloud_of elements.visibility tables.visibility_of elements.rain tables.rain_of indicators.rain_indicator tables.rain_indicator_of indicators.wind_direction tables.wind_direction_of indicators.rain_duration indicators.rain_duration_of are_figures cut kinds.kind_of kinds.of_three kinds.of_four kinds.of_five places.aaxx_after places.opened places.ordered places.first_of_one places.final places.complete ended check1 is_known check2 are_digits shaped_from is_day is_hour is_unit is_time is_station ranged_from of_groups refusal group.characters_of group.temperature group.moisture group.pressure group.wind_ff group.wind_fff group.cloud group.visibility group.rain group.rain_indicator group.rain_duration group.wind_direction contents.two_of contents.station_of contents.identification_of contents.indicators_of contents.wind_of contents.values_of parts.of_one parts.of_three parts.of_later parts.first parts.parts reports.content reports.read report
+unfolding bytes bytes_from table two three four elements.temperature tables.temperature_of elements.moisture tables.moisture_of tables.humidity_of elements.pressure tables.pressure_of elements.wind_ff tables.wind_of elements.cloud tables.cloud_of elements.visibility tables.visibility_of elements.rain tables.rain_of indicators.rain_indicator tables.rain_indicator_of indicators.wind_direction tables.wind_direction_of indicators.rain_duration indicators.rain_duration_of are_figures cut kinds.kind_of kinds.of_three kinds.of_four kinds.of_five places.aaxx_after places.opened places.ordered places.first_of_one places.final places.complete ended check1 is_known check2 are_digits shaped_from is_day is_hour is_unit is_time is_station ranged_from of_groups refusal characters_of group.temperature group.moisture group.pressure group.wind_ff group.wind_fff group.cloud group.visibility group.rain group.rain_indicator group.rain_duration group.wind_direction contents.two_of contents.station_of contents.identification_of contents.indicators_of contents.wind_of contents.values_of parts.of_one parts.of_three parts.of_later parts.first parts.parts reports.content reports.read report
 examples = record { one = refl; two = refl; three = refl; four = refl; five = refl; day = refl; slashes = refl; later = refl; run = refl; dry = refl; percent_1 = refl; percent_100 = refl; percent_0 = refl; percent_101 = refl; percent_slash = refl; no_minimum = refl }

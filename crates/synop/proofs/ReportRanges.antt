@@ -5,17 +5,16 @@ use mathlib.Core.Bool.{Bool, true, false, cond, ◌&&◌}
 use mathlib.Core.List.{List, [], ◌∷◌}
 use Prim.Native.Nat.{ℕ, ◌+◌, ◌-◌, ◌*◌, ◌<◌, ◌≤◌}
 use native.Mathlib.Omega.{arith}
-use lib.Dec.{T, leb, eqb, lit<, lit≤}
+use lib.Dec.{T, leb, eqb, lit≤}
 use borrow.Author.Tests.{leb-true, leb-false, eqb-true, eqb-false}
 use Rattle.laws.specs.Table.{table}
 use Rattle.laws.proofs.Bools.{and_left, and_right, Known, is_true, is_false, known}
 use Rattle.synop_figures.specs.Digits.{digit, two, three, four, given}
 use Rattle.laws.proofs.Bools.{by_cond}
-use Rattle.synop_figures.proofs.Numbers.{digit_below, four_below}
-use Rattle.synop_figures.specs.declared.Number.{Number}
-use Rattle.synop_figures.specs.declared.Number.TheVariants.{Slash, Digits}
+use Rattle.std.specs.Prelude.{Option, Some, None}
 use Rattle.synop_text.specs.Characters.{is_digit}
-use Rattle.synop_text.specs.Kinds.{tokens}
+use Rattle.synop_text.specs.Kinds.{tokens, characters_of}
+use Rattle.synop_text.specs.declared.Characters.{Characters}
 use Rattle.synop_text.specs.declared.Group.{Group}
 use Rattle.synop_text.specs.declared.Group.TheVariants.{Other, Aaxx, Nil, Section, Five}
 use Rattle.synop_bytes.specs.Bytes.{check1, check2}
@@ -27,11 +26,10 @@ use Rattle.synop_checks.specs.Refusal.{of_groups, refusal}
 use Rattle.synop_order.specs.declared.Place.{Place}
 use Rattle.synop_order.specs.declared.Place.TheVariants.{Start, Station}
 use Rattle.synop_parts.specs.Parts as parts
-use Rattle.synop_parts.specs.Parts.{part}
-use Rattle.synop_parts.specs.Parts.{first}
+use Rattle.synop_parts.specs.Parts.{part, first}
+use Rattle.synop_parts.specs.declared.Part.TheVariants as which
 use Rattle.synop_contents.specs.Contents.{number_of, two_of, station_of, identification_of}
-use Rattle.synop_figures.specs.OneGroup.{characters_of}
-use Rattle.synop_contents.proofs.Numbers.{number_below}
+use Rattle.synop_contents.proofs.Numbers.{four_number, digit_number}
 use Rattle.synop_contents.proofs.ContentRanges.{IndicatorsFit, ValuesFit, indicators_fit, values_fit}
 use Rattle.synop.specs.Report.{Report, refused, nil, whole, rain_group, content, read, report}
 use Rattle.synop_contents.specs.declared.Identification.{Identification}
@@ -57,8 +55,7 @@ apart e = absurd (subst T (sym e) tt)
 
 -- the groups begin with `AAXX`, a YYGGiw that is in range and an IIiii of digits that is not 00000
 data Begins : List Group → Type 0 where
-  begins : (a b c d e f g h i j : ℕ) (rest : List Group) → is_time a b c d e ≡ true → are_digits f g h i j ≡ true → is_station f g h i j ≡ true
-      → Begins (Aaxx ∷ Five a b c d e ∷ Five f g h i j ∷ rest)
+  begins : (x y : Characters) (rest : List Group) → is_time x ≡ true → are_digits y ≡ true → is_station y ≡ true → Begins (Aaxx ∷ Five x ∷ Five y ∷ rest)
 
 passing : (gs : List Group) → check3 gs ≡ true → check4 gs ≡ true → check5 gs ≡ true → Begins gs
 unfolding shaped_from ranged_from final places.complete places.aaxx_after
@@ -66,115 +63,108 @@ passing [] p q r = apart p
 passing (Other ∷ gs) p q r = apart p
 passing (Nil ∷ gs) p q r = apart p
 passing (Section m ∷ gs) p q r = apart p
-passing (Five a b c d e ∷ gs) p q r = apart p
+passing (Five x ∷ gs) p q r = apart p
 passing (Aaxx ∷ []) p q r = apart r
 passing (Aaxx ∷ Other ∷ gs) p q r = apart p
 passing (Aaxx ∷ Aaxx ∷ gs) p q r = apart p
 passing (Aaxx ∷ Nil ∷ gs) p q r = apart p
 passing (Aaxx ∷ Section m ∷ gs) p q r = apart p
-passing (Aaxx ∷ Five a b c d e ∷ []) p q r = apart r
-passing (Aaxx ∷ Five a b c d e ∷ Other ∷ gs) p q r = apart (and_right (are_digits a b c d e) false p)
-passing (Aaxx ∷ Five a b c d e ∷ Aaxx ∷ gs) p q r = apart (and_right (are_digits a b c d e) false p)
-passing (Aaxx ∷ Five a b c d e ∷ Nil ∷ gs) p q r = apart (and_right (are_digits a b c d e) false p)
-passing (Aaxx ∷ Five a b c d e ∷ Section m ∷ gs) p q r = apart (and_right (are_digits a b c d e) false p)
-passing (Aaxx ∷ Five a b c d e ∷ Five f g h i j ∷ rest) p q r =
-    let shapes = and_right (are_digits a b c d e) (are_digits f g h i j && shaped_from Station rest) p in
-    let ranges = and_right (is_time a b c d e) (is_station f g h i j && ranged_from Station rest) q in
-    begins a b c d e f g h i j rest (and_left (is_time a b c d e) (is_station f g h i j && ranged_from Station rest) q)
-    (and_left (are_digits f g h i j) (shaped_from Station rest) shapes)
-    (and_left (is_station f g h i j) (ranged_from Station rest) ranges)
+passing (Aaxx ∷ Five x ∷ []) p q r = apart r
+passing (Aaxx ∷ Five x ∷ Other ∷ gs) p q r = apart (and_right (are_digits x) false p)
+passing (Aaxx ∷ Five x ∷ Aaxx ∷ gs) p q r = apart (and_right (are_digits x) false p)
+passing (Aaxx ∷ Five x ∷ Nil ∷ gs) p q r = apart (and_right (are_digits x) false p)
+passing (Aaxx ∷ Five x ∷ Section m ∷ gs) p q r = apart (and_right (are_digits x) false p)
+passing (Aaxx ∷ Five x ∷ Five y ∷ rest) p q r =
+    let shapes = and_right (are_digits x) (are_digits y && shaped_from Station rest) p in
+    let ranges = and_right (is_time x) (is_station y && ranged_from Station rest) q in
+    begins x y rest (and_left (is_time x) (is_station y && ranged_from Station rest) q) (and_left (are_digits y) (shaped_from Station rest) shapes)
+    (and_left (is_station y) (ranged_from Station rest) ranges)
 
 -- a test that a number passes
-given_true : (n : Number) (f : ℕ → Bool) → given n false f ≡ true → f (number_of n) ≡ true
-given_true Slash f e = apart e
-given_true (Digits n) f e = e
+given_true : (n : Option ℕ) (f : ℕ → Bool) → given n false f ≡ true → f (number_of n) ≡ true
+given_true None f e = apart e
+given_true (Some n) f e = e
 
-digit_of : (c : ℕ) → is_digit c ≡ true → digit c ≡ Digits (c - 48)
+digit_of : (c : ℕ) → is_digit c ≡ true → digit c ≡ Some (c - 48)
 digit_of c e = rw (and_left (leb 48 c) (leb c 57) e, and_right (leb 48 c) (leb c 57) e)
 
 from_0 : (c : ℕ) → is_digit c ≡ true → 48 ≤ c
 from_0 c e = leb-true 48 c (and_left (leb 48 c) (leb c 57) e)
 
-module _ (f g h i j : ℕ) (digits : are_digits f g h i j ≡ true) where
-  is_j : is_digit j ≡ true
+module _ (y : Characters) (digits : are_digits y ≡ true) where
+  -- each of the five is a digit
+  five : (is_digit y.a ≡ true) × (is_digit y.b ≡ true) × (is_digit y.c ≡ true) × (is_digit y.d ≡ true) × (is_digit y.e ≡ true)
   unfolding are_digits
-  is_j = and_right (((is_digit f && is_digit g) && is_digit h) && is_digit i) (is_digit j) digits
-
-  is_fghi : (((is_digit f && is_digit g) && is_digit h) && is_digit i) ≡ true
-  unfolding are_digits
-  is_fghi = and_left (((is_digit f && is_digit g) && is_digit h) && is_digit i) (is_digit j) digits
-
-  is_i : is_digit i ≡ true
-  is_i = and_right ((is_digit f && is_digit g) && is_digit h) (is_digit i) is_fghi
-
-  is_fgh : ((is_digit f && is_digit g) && is_digit h) ≡ true
-  is_fgh = and_left ((is_digit f && is_digit g) && is_digit h) (is_digit i) is_fghi
-
-  is_h : is_digit h ≡ true
-  is_h = and_right (is_digit f && is_digit g) (is_digit h) is_fgh
-
-  is_fg : (is_digit f && is_digit g) ≡ true
-  is_fg = and_left (is_digit f && is_digit g) (is_digit h) is_fgh
-
-  is_g : is_digit g ≡ true
-  is_g = and_right (is_digit f) (is_digit g) is_fg
-
-  is_f : is_digit f ≡ true
-  is_f = and_left (is_digit f) (is_digit g) is_fg
+  five =
+      let abcd = and_left (((is_digit y.a && is_digit y.b) && is_digit y.c) && is_digit y.d) (is_digit y.e) digits in
+      let abc = and_left ((is_digit y.a && is_digit y.b) && is_digit y.c) (is_digit y.d) abcd in
+      let ab = and_left (is_digit y.a && is_digit y.b) (is_digit y.c) abc in (
+        and_left (is_digit y.a) (is_digit y.b) ab,
+        and_right (is_digit y.a) (is_digit y.b) ab,
+        and_right (is_digit y.a && is_digit y.b) (is_digit y.c) abc,
+        and_right ((is_digit y.a && is_digit y.b) && is_digit y.c) (is_digit y.d) abcd,
+        and_right (((is_digit y.a && is_digit y.b) && is_digit y.c) && is_digit y.d) (is_digit y.e) digits,
+      )
 
   number : ℕ
-  number = 10 * (10 * (10 * (10 * (f - 48) + (g - 48)) + (h - 48)) + (i - 48)) + (j - 48)
+  number = 10 * (10 * (10 * (10 * (y.a - 48) + (y.b - 48)) + (y.c - 48)) + (y.d - 48)) + (y.e - 48)
 
-  is_number : 10 * number_of (four f g h i) + number_of (digit j) ≡ number
-  unfolding number four three two
-  is_number = rw (digit_of f is_f, digit_of g is_g, digit_of h is_h, digit_of i is_i, digit_of j is_j)
+  is_number : station_of y ≡ number
+  unfolding number four three two station_of
+  is_number = rw (digit_of y.a five.0, digit_of y.b five.1, digit_of y.c five.2, digit_of y.d five.3, digit_of y.e five.4)
 
-  above_0 : is_station f g h i j ≡ true → 1 ≤ number
+  above_0 : is_station y ≡ true → 1 ≤ number
   unfolding number is_station
   above_0 e = by (known (leb 1 number))
     where
-      all_0 : f ≡ 48 → g ≡ 48 → h ≡ 48 → i ≡ 48 → j ≡ 48 → ⊥
+      all_0 : y.a ≡ 48 → y.b ≡ 48 → y.c ≡ 48 → y.d ≡ 48 → y.e ≡ 48 → ⊥
       all_0 p q r s t = apart (rw (p, q, r, s, t) at e)
 
       by : Known (leb 1 number) → 1 ≤ number
       by (is_true l) = leb-true 1 number l
       by (is_false l) =
           let z : number < 1 = leb-false 1 number l in
-          let a = from_0 f is_f in
-          let b = from_0 g is_g in
-          let c = from_0 h is_h in
-          let d = from_0 i is_i in
-          let k = from_0 j is_j in
+          let a = from_0 y.a five.0 in
+          let b = from_0 y.b five.1 in
+          let c = from_0 y.c five.2 in
+          let d = from_0 y.d five.3 in
+          let k = from_0 y.e five.4 in
           absurd (all_0 (omega arith) (omega arith) (omega arith) (omega arith) (omega arith))
 
-named : (a b c d e f g h i j : ℕ) → is_time a b c d e ≡ true → are_digits f g h i j ≡ true → is_station f g h i j ≡ true
-    → Named (identification_of (Five a b c d e) (Five f g h i j))
-unfolding is_time is_day is_hour identification_of characters_of two_of station_of
-named a b c d e f g h i j time digits station =
+station_most : (y : Characters) → station_of y ≤ 99999
+unfolding station_of
+station_most y =
+    let n = four_number y.a y.b y.c y.d in
+    let k = digit_number y.e in
+    omega arith
+
+named : (x y : Characters) → is_time x ≡ true → are_digits y ≡ true → is_station y ≡ true → Named (identification_of (Some x) (Some y))
+unfolding is_time is_day is_hour identification_of two_of
+named x y time digits station =
     record {
-      station_least = rw (is_number f g h i j digits) (above_0 f g h i j digits station);
-      station_most =
-          let n = number_below 10000 (four f g h i) (lit< tt) (four_below f g h i) in
-          let k = number_below 10 (digit j) (lit< tt) (digit_below j) in
-          omega arith;
-      day_least = leb-true 1 (number_of (two a b)) (and_left (leb 1 (number_of (two a b))) (leb (number_of (two a b)) 31) day);
-      day_most = leb-true (number_of (two a b)) 31 (and_right (leb 1 (number_of (two a b))) (leb (number_of (two a b)) 31) day);
-      hour_most = leb-true (number_of (two c d)) 23 hour;
+      station_least = rw (is_number y digits) (above_0 y digits station);
+      station_most = station_most y;
+      day_least = leb-true 1 yy (and_left (leb 1 yy) (leb yy 31) day);
+      day_most = leb-true yy 31 (and_right (leb 1 yy) (leb yy 31) day);
+      hour_most = leb-true (number_of (two x.c x.d)) 23 hour;
     }
   where
-    first_two : (is_day a b && is_hour c d) ≡ true
-    first_two = and_left (is_day a b && is_hour c d) (is_unit e) time
+    yy : ℕ
+    yy = number_of (two x.a x.b)
 
-    day : (leb 1 (number_of (two a b)) && leb (number_of (two a b)) 31) ≡ true
-    day = given_true (two a b) (λ yy. leb 1 yy && leb yy 31) (and_left (is_day a b) (is_hour c d) first_two)
+    first_two : (is_day x.a x.b && is_hour x.c x.d) ≡ true
+    first_two = and_left (is_day x.a x.b && is_hour x.c x.d) (is_unit x.e) time
 
-    hour : leb (number_of (two c d)) 23 ≡ true
-    hour = given_true (two c d) (λ gg. leb gg 23) (and_right (is_day a b) (is_hour c d) first_two)
+    day : (leb 1 yy && leb yy 31) ≡ true
+    day = given_true (two x.a x.b) (λ k. leb 1 k && leb k 31) (and_left (is_day x.a x.b) (is_hour x.c x.d) first_two)
+
+    hour : leb (number_of (two x.c x.d)) 23 ≡ true
+    hour = given_true (two x.c x.d) (λ gg. leb gg 23) (and_right (is_day x.a x.b) (is_hour x.c x.d) first_two)
 
 -- ---- the whole
-heading_named : (gs : List Group) → Begins gs → Named (identification_of (part (parts.parts gs) parts.time) (part (parts.parts gs) parts.station))
-unfolding parts.parts table first places.aaxx_after
-heading_named gs (begins a b c d e f g h i j rest time digits station) = named a b c d e f g h i j time digits station
+heading_named : (gs : List Group) → Begins gs → Named (identification_of (part (parts.parts gs) which.Time) (part (parts.parts gs) which.Station))
+unfolding parts.parts table first places.aaxx_after characters_of
+heading_named gs (begins x y rest time digits station) = named x y time digits station
 
 content_in_range : (gs : List Group) (p : Place) → Begins gs → InRange (content p (parts.parts gs))
 unfolding content
@@ -184,7 +174,7 @@ content_in_range gs p b =
     by_cond InRange (places.is_nil p) (λ _. heading_named gs b)
     (λ _. (
       heading_named gs b,
-      indicators_fit (group parts.visibility) (group parts.wind) (rain_group kept),
+      indicators_fit (group which.Visibility) (group which.Wind) (rain_group kept),
       values_fit kept (rain_group kept),
     ))
 

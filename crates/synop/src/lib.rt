@@ -1,36 +1,44 @@
-// A SYNOP report read: from the bytes of a text to the number that it is refused with, or to its station, day and hour and, unless
-// it is `NIL`, its indicators and its nine values.
+// A SYNOP report read: from the bytes of a text to why it is refused, or to its station, day and hour and, unless it is `NIL`, its
+// indicators and its nine values.
 #![tactic(auto)]
 
-ghost use Rattle.std.specs.Prelude.{◌≡◌};
+ghost use Rattle.std.specs.Prelude.{◌≡◌, true};
 ghost use Rattle.synop_text.specs.Kinds.{tokens};
-ghost use Rattle.synop_checks.specs.Refusal as refusals;
-ghost use Rattle.synop_contents.specs.Contents.{listed};
+ghost use Rattle.refusals.specs.Refusals.{number_or_zero};
+ghost use Rattle.synop_checks.specs.Refusal as checks;
 ghost use Rattle.synop.specs.Report as reports;
 
+use refusals::Refusal;
 use synop_contents::{Identification, Indicators, Values};
 use synop_order::Place;
-use synop_parts::{LATER_RAIN, PARTS, RAIN, STATION, TIME, VISIBILITY, WIND, first_of, part_of};
-use synop_text::{Cursor, Group, Token};
+use synop_parts::{Part, Parts};
+use synop_text::Cursor;
 
-// What a text is: refused with a number 1 to 5, a report that says nothing, or a whole one.
+// What a report says that passes: nothing, or all of it.
 #[derive(Clone, Copy)]
 pub enum Report {
-    Refused(u8),
     Nil(Identification),
     Whole(Identification, Indicators, Values),
 }
 
 // A report that passes, by the place of its last group and its parts.
-fn content(p: Place, kept: [Group; PARTS]) -> Report
-    ensures { reports.meaning result ≡ reports.content p kept }
+#[tactic(auto, unfolding(crate::specs::Report::content))]
+fn content(p: Place, kept: &Parts) -> Report
+    ensures { reports.passed result ≡ reports.content p kept.now.groups }
 {
-    let identification = synop_contents::identification_of(kept[TIME], kept[STATION]);
+    let identification = synop_contents::identification_of(
+        kept.of(Part::Time),
+        kept.of(Part::Station),
+    );
     if synop_order::is_nil(p) {
         return Report::Nil(identification);
     }
-    let rain = first_of(kept[RAIN], kept[LATER_RAIN]);
-    let indicators = synop_contents::indicators_of(kept[VISIBILITY], kept[WIND], rain);
+    let rain = kept.of(Part::Rain).or(kept.of(Part::LaterRain));
+    let indicators = synop_contents::indicators_of(
+        kept.of(Part::Visibility),
+        kept.of(Part::Wind),
+        rain,
+    );
     Report::Whole(
         identification,
         indicators,
@@ -38,69 +46,59 @@ fn content(p: Place, kept: [Group; PARTS]) -> Report
     )
 }
 
-// What the groups that were walked are: the first check that fails, or the content.
+// What the groups are that were walked and have their shapes: the first check that fails, or the content.
 #[tactic(auto, unfolding(crate::specs::Report::answered))]
-fn answer(p: Place, shaped: bool, ranged: bool, kept: [Group; PARTS]) -> Report
-    ensures { reports.meaning result ≡ reports.answered p shaped ranged kept }
+fn answer(p: Place, ranged: bool, kept: &Parts) -> Result<Report, Refusal>
+    ensures { reports.meaning result ≡ reports.answered p true ranged kept.now.groups }
 {
-    let shape = shaped & synop_order::begun(p);
-    if shape {
-        if ranged {
-            if synop_order::complete(p) {
-                return content(p, kept);
-            }
-            return Report::Refused(5);
-        }
-        return Report::Refused(4);
+    if !synop_order::begun(p) {
+        return Err(Refusal::Shape);
     }
-    Report::Refused(3)
+    if !ranged {
+        return Err(Refusal::OutOfRange);
+    }
+    if !synop_order::complete(p) {
+        return Err(Refusal::Order);
+    }
+    Ok(content(p, kept))
 }
 
 // ---- the walk
 
 // The groups of a text that passes checks 1 and 2, one after the other.
-#[tactic(auto, using(synop_parts::proofs::PartLaws::part_below))]
-fn walk(text: &[u8]) -> Report
-    ensures { reports.meaning result ≡ reports.read (refusals.of_groups (tokens text.now)) (tokens text.now) }
+fn walk(text: &[u8]) -> Result<Report, Refusal>
+    ensures { reports.meaning result ≡ reports.read (checks.of_groups (tokens text.now)) (tokens text.now) }
 {
-    let mut kept = [Group::Other; PARTS];
+    let mut kept = Parts::new();
     let mut place = Place::Start;
     let mut ranged = true;
-    let mut c = Cursor::new();
-    loop {
-        let Token::Group(g, next) = c.take(text) else {
-            return answer(place, true, ranged, kept);
-        };
+    let mut cursor = Cursor::new();
+    while let Some((g, next)) = cursor.take(text) {
         if !synop_checks::shaped(place, g) {
-            return answer(place, false, ranged, kept);
+            return Err(Refusal::Shape);
         }
         ranged = ranged & synop_checks::ranged(place, g);
         place = synop_order::next(place, g);
-        let k = part_of(place, g);
-        let old = kept[k];
-        kept[k] = first_of(old, g);
-        c = next;
+        kept.keep(place, g);
+        cursor = next;
     }
+    answer(place, ranged, &kept)
 }
 
 // What a text is.
-pub fn read(text: &[u8]) -> Report
+#[tactic(auto, using(crate::proofs::Assembled::by_bytes, crate::proofs::Assembled::by_groups))]
+pub fn read(text: &[u8]) -> Result<Report, Refusal>
     ensures { reports.meaning result ≡ reports.report text.now }
 {
-    let n = synop_bytes::of_bytes(text);
-    if n != 0 {
-        return Report::Refused(n);
-    }
+    synop_bytes::of_bytes(text)?;
     walk(text)
 }
 
-// The number that a text is refused with, or 0.
-pub fn refusal(text: &[u8]) -> u8
-    ensures { result ≡ refusals.refusal text.now }
+// The first check that a text fails, if it fails one.
+#[tactic(auto, using(crate::proofs::Refusals::of_refused, crate::proofs::Refusals::of_passed))]
+pub fn refusal(text: &[u8]) -> Result<(), Refusal>
+    ensures { number_or_zero result ≡ checks.refusal text.now }
 {
-    match read(text) {
-        Report::Refused(n) => n,
-        Report::Nil(_) => 0,
-        Report::Whole(_, _, _) => 0,
-    }
+    read(text)?;
+    Ok(())
 }

@@ -5,7 +5,7 @@ use Rattle.synop.proofs.Walking.{Walked}
 use Rattle.synop.proofs.walk.Given as goal
 
 abbrev pub invariant-loop-g : goal.invariant-loop-g
-invariant-loop-g l = Walked l.text l.kept l.place l.ranged l.c.at
+invariant-loop-g l = Walked l.text l.kept.groups l.place l.ranged l.cursor.at
 
 abbrev pub decreases-loop-g : goal.decreases-loop-g
-decreases-loop-g l = length l.text - l.c.at
+decreases-loop-g l = length l.text - l.cursor.at
