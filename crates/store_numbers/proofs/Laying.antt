@@ -9,7 +9,7 @@ use Prim.Native.Nat.{ℕ, zero, suc, ◌+◌, ◌*◌, ◌<◌, ◌≤◌}
 use native.Mathlib.Nat.{add-zero}
 use native.Mathlib.Numerals.{add-one}
 use native.Mathlib.Omega.{arith}
-use lib.ListN.{length, set, replicate, drop_of_length-le}
+use lib.ListN.{length, set, drop_of_length-le}
 use lib.Seq.{sets, sets-eq, length-sets}
 use Rattle.store_layout.specs.Layout.{pieces}
 use Rattle.store_layout.proofs.Pieces.{length_pieces}
@@ -32,11 +32,6 @@ pieces_last : (n : ℕ) (f : ℕ → List ℕ) → pieces (suc n) f ≡ pieces n
 unfolding pieces
 pieces_last zero f = append-nil (f 0)
 pieces_last (suc n) f = ap (λ (l : List ℕ). f 0 ++ l) (pieces_last n (λ k. f (suc k))) ∙ sym (append_assoc (f 0) (pieces n (λ k. f (suc k))) (f (suc n)))
-
-pub pieces_zeros : (n : ℕ) → pieces n (λ k. 0 ∷ []) ≡ replicate n 0
-unfolding pieces
-pieces_zeros zero = refl
-pieces_zeros (suc n) = ap (λ (l : List ℕ). 0 ∷ l) (pieces_zeros n)
 
 -- t is s with the first k of n pieces laid from `base` on
 pub record Laying (s : List ℕ) (base : ℕ) (f : ℕ → List ℕ) (n : ℕ) (t : List ℕ) (k : ℕ) : Type 0 where

@@ -5,10 +5,11 @@ ghost use Rattle.store_layout.specs.Layout.{head_length, decode_head, encode_hea
 ghost use Rattle.store_layout.specs.Model as model;
 
 use crate::at::{COPY_IN, DD_IN, IR_IN, RANK_IN, TR_IN};
-use crate::write::put_four;
+use crate::write::put_bytes;
 use quality::head::SlotHead;
 
 // The head at a position.
+#[tactic(auto, unfolding(store_layout::specs::Layout::decode_head))]
 pub fn head_at(store: &[u8], at: usize) -> SlotHead
     requires { at + head_length ≤ length store.now }
     ensures { result ≡ decode_head store.now at }
@@ -24,13 +25,12 @@ pub fn head_at(store: &[u8], at: usize) -> SlotHead
 }
 
 // Another head there.
+#[tactic(auto, unfolding(store_layout::specs::Layout::encode_head))]
 pub fn put_head(store: &mut [u8], at: usize, h: SlotHead)
     requires { at + head_length ≤ length store.old }
     ensures { store.new ≡ sets store.old at (encode_head h) }
 {
-    put_four(store, at, h.filed, h.ir, h.tr, h.dd);
-    store[at + RANK_IN] = h.rank;
-    store[at + COPY_IN] = h.copy;
+    put_bytes(store, at, &[h.filed, h.ir, h.tr, h.dd, h.rank, h.copy]);
 }
 
 // The head of a slot that no report was filed in.

@@ -7,7 +7,7 @@ pub fn word_at(store: &[u8], at: usize) -> u16
     requires { at + 1 < length store.now }
     ensures { result ≡ word store.now at }
 {
-    store_layout::word(store[at], store[at + 1]) as u16
+    u16::from_be_bytes([store[at], store[at + 1]])
 }
 
 // The number of four bytes at a position.
@@ -15,5 +15,5 @@ pub fn long_at(store: &[u8], at: usize) -> u32
     requires { at + 3 < length store.now }
     ensures { result ≡ long store.now at }
 {
-    store_layout::long(store[at], store[at + 1], store[at + 2], store[at + 3])
+    u32::from_be_bytes([store[at], store[at + 1], store[at + 2], store[at + 3]])
 }

@@ -1,16 +1,17 @@
 -- `store_numbers::write::put_zeros` meets its contract.
-use mathlib.Core.Path.{refl, ◌∙◌, ap}
+use mathlib.Core.Path.{◌≡◌, ◌∙◌, ap}
+use Prim.Native.Nat.{◌+◌, ◌-◌}
 use native.Mathlib.Omega.{arith}
-use borrow.Author.Rules.{rules}
+use lib.ListN.{replicate}
 use lib.Seq.{sets}
-use Rattle.store_numbers.proofs.Laying.{none, more, whole, pieces_zeros}
+use Rattle.store_layout.proofs.Parts.{length_part}
+use Rattle.store_layout.proofs.Writes.{lent}
 use Rattle.store_numbers.proofs.write.put_zeros.Goals as goal
 
-pub loop-j-init : goal.loop-j-init
-loop-j-init c = none _ _ _ _
-
-pub loop-j-preserved : goal.loop-j-preserved
-loop-j-preserved c = more c.loop-j.invariant 1 (λ j. refl) (search rules) _ (omega arith) refl
-
 pub returns : goal.returns
-returns c = whole c.loop-j.invariant (search rules) ∙ ap (sets _ _) (pieces_zeros _)
+returns c =
+    let a = c.args in
+    let long = length_part (a.at + a.n - a.at) a.at a.store.now (omega (arith, c.requires)) in
+    let e : a.at + a.n - a.at ≡ a.n = omega arith in
+    lent a.store.now c.fill.new.self a.at (a.at + a.n) (omega arith) c.requires (c.fill.ensures.len ∙ long)
+    ∙ ap (sets a.store.now a.at) (c.fill.ensures.after (λ y e. e) ∙ ap (λ n. replicate n 0) (long ∙ e))
