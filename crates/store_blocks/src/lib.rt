@@ -6,12 +6,23 @@ ghost use Rattle.laws.specs.All.{all};
 ghost use Rattle.store_layout.specs.Layout.{block_length, cell_element, head_length, cell_length, sheet_length, raw_from, head_at};
 ghost use Rattle.store_layout.specs.Sound.{sound_head, sound_cell, sound_block};
 
-use store_fields::{is_cell, is_head};
+use store_fields::{Limits, is_cell, is_head};
 use store_numbers::at::{
     CELL_LENGTH, CHECKED_FROM, FLAG_IN, HEAD_LENGTH, RAW_FROM, SLOT_LENGTH, VALUE_IN,
 };
 use store_numbers::head::head_at;
 use store_numbers::read::word_at;
+
+// The limits of a raw cell, state 0 or 1 and no flag, and of a checked one.
+const RAW: Limits = Limits {
+    states: 1,
+    flags: 0,
+};
+
+const CHECKED: Limits = Limits {
+    states: 3,
+    flags: 4,
+};
 
 fn is_head_at(store: &[u8], at: usize, settled: u16) -> bool
     requires { at + head_length ≤ length store.now }
@@ -25,53 +36,37 @@ fn are_heads(store: &[u8], at: usize, settled: u16) -> bool
     requires { at + raw_from ≤ length store.now }
     ensures { result ≡ all (λ k. sound_head settled store.now (at + head_at k)) 9 }
 {
-    for k in 0..9 {
-        if !is_head_at(store, at + HEAD_LENGTH * k, settled) {
-            return false;
-        }
-    }
-    true
+    (0..9).all(|k| is_head_at(store, at + HEAD_LENGTH * k, settled))
 }
 
 // The cell of an element at a position.
-fn is_cell_at(store: &[u8], at: usize, element: usize, states: u8, flags: u8) -> bool
+fn is_cell_at(store: &[u8], at: usize, element: usize, limits: Limits) -> bool
     requires { at + cell_length ≤ length store.now }
-    ensures { result ≡ sound_cell states flags element store.now at }
+    ensures { result ≡ sound_cell limits.states limits.flags element store.now at }
 {
     is_cell(
         element,
         store[at],
         store[at + FLAG_IN],
         word_at(store, at + VALUE_IN),
-        states,
-        flags,
+        limits,
     )
 }
 
 // The nine raw or checked cells of a slot from a position on, element by element.
-fn are_nine(store: &[u8], at: usize, states: u8, flags: u8) -> bool
+fn are_nine(store: &[u8], at: usize, limits: Limits) -> bool
     requires { at + cell_length * 9 ≤ length store.now }
-    ensures { result ≡ all (λ e. sound_cell states flags e store.now (at + cell_length * e)) 9 }
+    ensures { result ≡ all (λ e. sound_cell limits.states limits.flags e store.now (at + cell_length * e)) 9 }
 {
-    for e in 0..9 {
-        if !is_cell_at(store, at + CELL_LENGTH * e, e, states, flags) {
-            return false;
-        }
-    }
-    true
+    (0..9).all(|e| is_cell_at(store, at + CELL_LENGTH * e, e, limits))
 }
 
 // The 81 raw or checked cells from a position on, slot by slot: a loop over nine is unrolled, which one over 81 is not.
-fn are_cells(store: &[u8], at: usize, states: u8, flags: u8) -> bool
+fn are_cells(store: &[u8], at: usize, limits: Limits) -> bool
     requires { at + sheet_length ≤ length store.now }
-    ensures { result ≡ all (λ j. sound_cell states flags (cell_element j) store.now (at + cell_length * j)) 81 }
+    ensures { result ≡ all (λ j. sound_cell limits.states limits.flags (cell_element j) store.now (at + cell_length * j)) 81 }
 {
-    for k in 0..9 {
-        if !are_nine(store, at + SLOT_LENGTH * k, states, flags) {
-            return false;
-        }
-    }
-    true
+    (0..9).all(|k| are_nine(store, at + SLOT_LENGTH * k, limits))
 }
 
 // The block that begins at a position, of a station with that settled number: heads, raw cells with state 0 or 1, or a humidity in D's, and
@@ -81,6 +76,6 @@ pub fn is_block(store: &[u8], at: usize, settled: u16) -> bool
     ensures { result ≡ sound_block settled store.now at }
 {
     are_heads(store, at, settled)
-        & are_cells(store, at + RAW_FROM, 1, 0)
-        & are_cells(store, at + CHECKED_FROM, 3, 4)
+        & are_cells(store, at + RAW_FROM, RAW)
+        & are_cells(store, at + CHECKED_FROM, CHECKED)
 }

@@ -4,45 +4,56 @@
 ghost use Rattle.std.specs.Prelude.{◌≡◌, ◌&&◌, ltb};
 ghost use Rattle.quality.specs.Valid.{is_cell};
 ghost use Rattle.store_layout.specs.Layout.{signed};
-ghost use Rattle.store_layout.specs.Valid.{is_entry, is_head};
+ghost use Rattle.store_layout.specs.Valid.{is_direction, is_entry, is_head};
 
 use quality::head::{HIGHEST_RANK, SlotHead};
 
 // D's number among the elements.
 const DEW_POINT: usize = 1;
 
+// The largest state, but a humidity's, and the largest flag that may stand in a cell of a sheet.
+#[derive(Clone, Copy)]
+pub struct Limits {
+    pub states: u8,
+    pub flags: u8,
+}
+
+// Whether a number is a wind direction, calm and missing among them.
+fn is_direction(dd: u8) -> bool
+    ensures { result ≡ is_direction dd }
+{
+    matches!(dd, 0..=36 | 99 | 100)
+}
+
 // A slot head of a station with that settled number. From 2 on a settling is under way and the copy is a dd, below it is 0.
 #[tactic(auto, unfolding(store_layout::specs::Valid::is_head))]
 pub fn is_head(settled: u16, h: SlotHead) -> bool
     ensures { result ≡ is_head settled h }
 {
-    let direction = (h.dd <= 36) | (h.dd == 99) | (h.dd == 100);
     let free = (h.filed == 1) | (h.rank == 0);
     let first = (h.filed <= 1)
         & (h.ir <= 5)
         & (h.tr <= 9)
-        & direction
+        & is_direction(h.dd)
         & (h.rank as u32 <= HIGHEST_RANK)
         & free;
-    let copied = (h.copy <= 36) | (h.copy == 99) | (h.copy == 100);
     if settled < 2 {
         return first & (h.copy == 0);
     }
-    first & copied
+    first & is_direction(h.copy)
 }
 
-// A cell of an element, its value in two's complement, with the largest state but a humidity's, and the largest flag, that may stand
-// there. A humidity stands in D's cells alone.
+// A cell of an element, its value in two's complement, within the limits of its sheet. A humidity stands in D's cells alone.
 #[tactic(auto, using(store_layout::proofs::Numbers::percent_test, store_layout::proofs::Numbers::size_test, store_layout::proofs::Numbers::zero_test), unfolding(quality::specs::Valid::is_cell))]
-pub fn is_cell(element: usize, state: u8, flag: u8, value: u16, states: u8, flags: u8) -> bool
-    ensures { result ≡ is_cell states flags element (record { state = state; flag = flag; value = signed value }) }
+pub fn is_cell(element: usize, state: u8, flag: u8, value: u16, limits: Limits) -> bool
+    ensures { result ≡ is_cell limits.states limits.flags element (record { state = state; flag = flag; value = signed value }) }
 {
     let humidity = (element == DEW_POINT) & (state == 4) & ((1 <= value) & (value <= 100));
-    let stands = (state <= states) | humidity;
+    let stands = (state <= limits.states) | humidity;
     if !stands {
         return false;
     }
-    if flags < flag {
+    if limits.flags < flag {
         return false;
     }
     if value == 32768 {
