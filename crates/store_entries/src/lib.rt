@@ -1,27 +1,21 @@
-// The store's header and station entries: the date, a station's climate row and settled number, and where its block lies.
+// The store's header and station entries: the date, a station's climate row and settled number, and its block.
 #![tactic(auto)]
 
 ghost use Rattle.std.specs.Prelude.{◌≡◌, ◌+◌, ◌<◌, ◌≤◌, length};
 ghost use Rattle.store_layout.specs.Model.{station_at};
-ghost use Rattle.store_layout.specs.Layout.{word, count_at, header_length, block_length, block_at, decode};
+ghost use Rattle.store_layout.specs.Layout.{word, count_at, header_length, block_length, block_at, block_bytes, decode};
 ghost use Rattle.store_layout.specs.Framed.{Framed};
 ghost use Rattle.store_entries.specs.Marked.{Marked};
 
+use calendar::Date;
 use store_numbers::at::{
-    COUNT_AT, DAY_AT, MONTH_AT, ROW_IN, SETTLED_IN, YEAR_AT, block_at, entry_at,
+    BLOCK_LENGTH, COUNT_AT, DAY_AT, MONTH_AT, ROW_IN, SETTLED_IN, YEAR_AT, block_at, entry_at,
 };
 use store_numbers::read::word_at;
 use store_numbers::write::put_word;
 
-// A date.
-#[derive(Clone, Copy)]
-pub struct Date {
-    pub year: u32,
-    pub month: u32,
-    pub day: u32,
-}
-
 // The date D of the store.
+#[tactic(auto, unfolding(store_layout::specs::Layout::decode))]
 pub fn date_of(store: &[u8]) -> Date
     requires { header_length ≤ length store.now }
     ensures { (result.year ≡ (decode store.now).year) × (result.month ≡ (decode store.now).month) × (result.day ≡ (decode store.now).day) }
@@ -63,4 +57,13 @@ pub fn block_start(store: &[u8], index: usize) -> usize
     ensures { (result ≡ block_at (word store.now count_at) index) × (result + block_length ≤ length store.now) }
 {
     block_at(word_at(store, COUNT_AT) as usize, index)
+}
+
+// The block of the station at an index.
+pub fn block_of(store: &[u8], index: usize) -> &[u8; BLOCK_LENGTH]
+    requires { Framed store.now × (index < word store.now count_at) }
+    ensures { result.now ≡ block_bytes store.now (word store.now count_at) index }
+{
+    let at = block_start(store, index);
+    store[at..at + BLOCK_LENGTH].as_array().unwrap()
 }

@@ -1,7 +1,0 @@
--- `store_entries::date_of` meets its contract.
-use Rattle.store_layout.specs.Layout.{decode}
-use Rattle.store_entries.proofs.date_of.Goals as goal
-
-pub returns : goal.returns
-unfolding decode
-returns c = (c.word_at.ensures, c.word_at-2.ensures, c.word_at-3.ensures)
