@@ -7,6 +7,7 @@ ghost use Rattle.store_layout.specs.Model.{unfiled, empty_block};
 ghost use Rattle.store_layout.specs.Layout.{header_length, entry_length, block_length, raw_from, entry_at, block_at, store_length, word_bytes, long_bytes, pieces, encode_head, encode_block, encode};
 ghost use Rattle.store_layout.specs.Opening.{openable, fresh};
 
+use calendar::Date;
 use store_numbers::at::{
     BLOCK_LENGTH, HEAD_LENGTH, HEADER_LENGTH, RAW_FROM, ROW_IN, SETTLED_IN, block_at, entry_at,
 };
@@ -73,9 +74,9 @@ fn put_blocks(store: &mut [u8], n: usize)
 }
 
 // All bytes of a fresh store.
-pub fn put_fresh(store: &mut [u8], year: u32, month: u32, day: u32, stations: &[u32], rows: &[u16])
-    requires { openable (length store.old) year month day stations.now rows.now ≡ true }
-    ensures { store.new ≡ encode (fresh year month day stations.now rows.now) }
+pub fn put_fresh(store: &mut [u8], date: Date, stations: &[u32], rows: &[u16])
+    requires { openable (length store.old) date.year date.month date.day stations.now rows.now ≡ true }
+    ensures { store.new ≡ encode (fresh date.year date.month date.day stations.now rows.now) }
 {
     let n = stations.len();
     let words = [
@@ -83,9 +84,9 @@ pub fn put_fresh(store: &mut [u8], year: u32, month: u32, day: u32, stations: &[
         HEADER_LENGTH as u16,
         block_at(n, 0) as u16,
         BLOCK_LENGTH as u16,
-        year as u16,
-        month as u16,
-        day as u16,
+        date.year as u16,
+        date.month as u16,
+        date.day as u16,
         0,
     ];
     put_header(store, words);

@@ -41,6 +41,6 @@ pub returns : goal.returns
 unfolding pieces
 returns c =
     let a = c.args in
-    fresh_written a.year a.month a.day a.stations.now a.rows.now a.store.now _ _ _ (openable_parts _ _ _ _ _ _ c.requires).long
+    fresh_written a.date.year a.date.month a.date.day a.stations.now a.rows.now a.store.now _ _ _ (openable_parts _ _ _ _ _ _ c.requires).long
     (rw c.block_at.ensures at c.put_header.ensures)
     c.put_entries.ensures c.put_blocks.ensures
