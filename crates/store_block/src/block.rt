@@ -1,5 +1,6 @@
 // A station's block: its slot heads, and its raw and checked columns, read and written.
 ghost use Rattle.std.specs.Prelude.{◌≡◌, map, ◌<◌, length};
+ghost use Rattle.std.specs.Borrow.{sem, Lends, Array, u8 as byte};
 ghost use Rattle.quality.specs.Coded.{cell, cells, sheet};
 ghost use Rattle.quality.specs.Elements.{column};
 ghost use Rattle.store_layout.specs.Model.{head_of};
@@ -11,8 +12,21 @@ ghost use Rattle.store_block.specs.Coded.{directions_of, copy_for};
 use quality::column::{Column, OffsetCell};
 use quality::head::SlotHead;
 use store_cells::{Area, cell_at, cell_in, put_cell};
-use store_numbers::at::{COPY_IN, DD_IN, HEAD_LENGTH};
+use store_numbers::at::{BLOCK_LENGTH, COPY_IN, DD_IN, HEAD_LENGTH};
 use store_numbers::head::{head_at, put_head, unfiled};
+
+// A part of the store as a block. What a part was lent for is known only of a part that is passed itself, so the functions that the
+// store lends a part to take it as bytes, and call this.
+pub fn as_block(part: &mut [u8]) -> &mut [u8; BLOCK_LENGTH]
+    requires { length part.old ≡ block_length }
+    ensures* writes_back { sem 𝓛 (Lends (Array byte 0) (Array byte 0) part.entry result (λ bytes. bytes)) }
+    ensures value { result.now ≡ part.old }
+{
+    let Some(block) = part.as_mut_array() else {
+        unreachable!()
+    };
+    block
+}
 
 // A slot's own dd, or the copy that a settling under way reads.
 #[derive(Clone, Copy)]
@@ -38,8 +52,8 @@ fn blank() -> Column {
 }
 
 // The nine cells of an element.
-fn column_of(block: &[u8], area: Area, element: usize) -> Column
-    requires { (length block.now ≡ block_length) × (element < 9) }
+fn column_of(block: &[u8; BLOCK_LENGTH], area: Area, element: usize) -> Column
+    requires { element < 9 }
     ensures { cells result ≡ column (sheet_in area (decode_block block.now)) element }
 {
     let mut c = blank();
@@ -50,8 +64,7 @@ fn column_of(block: &[u8], area: Area, element: usize) -> Column
 }
 
 // The nine elements' columns.
-pub fn sheet_of(block: &[u8], area: Area) -> [Column; 9]
-    requires { length block.now ≡ block_length }
+pub fn sheet_of(block: &[u8; BLOCK_LENGTH], area: Area) -> [Column; 9]
     ensures { sheet result ≡ sheet_in area (decode_block block.now) }
 {
     let c = blank();
@@ -63,8 +76,7 @@ pub fn sheet_of(block: &[u8], area: Area) -> [Column; 9]
 }
 
 // The nine slot heads.
-pub fn heads_of(block: &[u8]) -> [SlotHead; 9]
-    requires { length block.now ≡ block_length }
+pub fn heads_of(block: &[u8; BLOCK_LENGTH]) -> [SlotHead; 9]
     ensures { result ≡ (decode_block block.now).heads }
 {
     let mut r = [unfiled(); 9];
@@ -75,8 +87,7 @@ pub fn heads_of(block: &[u8]) -> [SlotHead; 9]
 }
 
 // dd of each slot, its own or the copy.
-pub fn directions(block: &[u8], of: Dd) -> [u8; 9]
-    requires { length block.now ≡ block_length }
+pub fn directions(block: &[u8; BLOCK_LENGTH], of: Dd) -> [u8; 9]
     ensures { result ≡ directions_of of (decode_block block.now) }
 {
     let at = match of {
@@ -91,16 +102,16 @@ pub fn directions(block: &[u8], of: Dd) -> [u8; 9]
 }
 
 // The head of slot k.
-pub fn head_of(block: &[u8], k: usize) -> SlotHead
-    requires { (length block.now ≡ block_length) × (k < 9) }
+pub fn head_of(block: &[u8; BLOCK_LENGTH], k: usize) -> SlotHead
+    requires { k < 9 }
     ensures { result ≡ head_of (decode_block block.now) k }
 {
     head_at(block, HEAD_LENGTH * k)
 }
 
 // A report filed in slot k: its head, and the nine elements' raw cells.
-pub fn put_slot(block: &mut [u8], k: usize, h: SlotHead, raw: [OffsetCell; 9])
-    requires { (length block.old ≡ block_length) × (k < 9) }
+pub fn put_slot(block: &mut [u8; BLOCK_LENGTH], k: usize, h: SlotHead, raw: [OffsetCell; 9])
+    requires { k < 9 }
     ensures { decode_block block.new ≡ with_slot k h (map cell raw) (decode_block block.old) }
 {
     put_head(block, HEAD_LENGTH * k, h);
@@ -110,8 +121,8 @@ pub fn put_slot(block: &mut [u8], k: usize, h: SlotHead, raw: [OffsetCell; 9])
 }
 
 // Another checked column of an element.
-fn put_checked(block: &mut [u8], element: usize, c: Column)
-    requires { (length block.old ≡ block_length) × (element < 9) }
+fn put_checked(block: &mut [u8; BLOCK_LENGTH], element: usize, c: Column)
+    requires { element < 9 }
     ensures { decode_block block.new ≡ with_column Area.Checked element (cells c) (decode_block block.old) }
 {
     for k in 0..9 {
@@ -120,8 +131,7 @@ fn put_checked(block: &mut [u8], element: usize, c: Column)
 }
 
 // Another checked sheet: the nine elements' columns.
-pub fn put_sheet(block: &mut [u8], columns: [Column; 9])
-    requires { length block.old ≡ block_length }
+pub fn put_sheet(block: &mut [u8; BLOCK_LENGTH], columns: [Column; 9])
     ensures { decode_block block.new ≡ with_checked (sheet columns) (decode_block block.old) }
 {
     for e in 0..9 {
@@ -130,8 +140,7 @@ pub fn put_sheet(block: &mut [u8], columns: [Column; 9])
 }
 
 // The nine copies of dd, taken or cleared.
-pub fn put_copies(block: &mut [u8], copies: Copies)
-    requires { length block.old ≡ block_length }
+pub fn put_copies(block: &mut [u8; BLOCK_LENGTH], copies: Copies)
     ensures { decode_block block.new ≡ with_copies (copy_for copies) (decode_block block.old) }
 {
     for k in 0..9 {

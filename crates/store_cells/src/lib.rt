@@ -1,7 +1,7 @@
 // The cells of a station's block: where each lies, one read, one written.
 #![tactic(auto)]
 
-ghost use Rattle.std.specs.Prelude.{◌≡◌, ◌+◌, ◌<◌, ◌≤◌, length};
+ghost use Rattle.std.specs.Prelude.{◌≡◌, ◌+◌, ◌<◌, ◌≤◌};
 ghost use Rattle.quality.specs.Cell.{slot};
 ghost use Rattle.quality.specs.Coded.{cell};
 ghost use Rattle.quality.specs.Elements.{column};
@@ -9,8 +9,8 @@ ghost use Rattle.store_layout.specs.Layout.{block_length, cell_length, checked_f
 ghost use Rattle.store_cells.specs.Areas.{sheet_in, area_from, cell_at, with_cell};
 
 use quality::column::OffsetCell;
-use store_numbers::at::{CELL_LENGTH, CHECKED_FROM, RAW_FROM};
-use store_numbers::write::put_four;
+use store_numbers::at::{BLOCK_LENGTH, CELL_LENGTH, CHECKED_FROM, RAW_FROM};
+use store_numbers::write::put_bytes;
 
 // A block's two sheets of cells.
 #[derive(Clone, Copy)]
@@ -38,8 +38,8 @@ pub fn cell_at(area: Area, element: usize, k: usize) -> usize
 }
 
 // The cell at a position.
-pub fn cell_in(block: &[u8], at: usize) -> OffsetCell
-    requires { at + cell_length ≤ length block.now }
+pub fn cell_in(block: &[u8; BLOCK_LENGTH], at: usize) -> OffsetCell
+    requires { at + cell_length ≤ block_length }
     ensures { cell result ≡ decode_cell block.now at }
 {
     OffsetCell {
@@ -50,24 +50,26 @@ pub fn cell_in(block: &[u8], at: usize) -> OffsetCell
 }
 
 // The cell of an element at slot k.
-pub fn cell_of(block: &[u8], area: Area, element: usize, k: usize) -> OffsetCell
-    requires { (length block.now ≡ block_length) × (element < 9) × (k < 9) }
+pub fn cell_of(block: &[u8; BLOCK_LENGTH], area: Area, element: usize, k: usize) -> OffsetCell
+    requires { (element < 9) × (k < 9) }
     ensures { cell result ≡ slot (column (sheet_in area (decode_block block.now)) element) k }
 {
     cell_in(block, cell_at(area, element, k))
 }
 
 // Another cell of an element at slot k.
-pub fn put_cell(block: &mut [u8], area: Area, element: usize, k: usize, d: OffsetCell)
-    requires { (length block.old ≡ block_length) × (element < 9) × (k < 9) }
+pub fn put_cell(block: &mut [u8; BLOCK_LENGTH], area: Area, element: usize, k: usize, d: OffsetCell)
+    requires { (element < 9) × (k < 9) }
     ensures { decode_block block.new ≡ with_cell area element k (cell d) (decode_block block.old) }
 {
-    put_four(
+    put_bytes(
         block,
         cell_at(area, element, k),
-        d.state,
-        d.flag,
-        store_layout::high_of(d.value),
-        store_layout::low_of(d.value),
+        &[
+            d.state,
+            d.flag,
+            store_layout::high_of(d.value),
+            store_layout::low_of(d.value),
+        ],
     );
 }

@@ -8,4 +8,4 @@ returns c =
     let a = c.args in
     cell_put a.block.now _ (search rules) a.area a.element a.k (search rules) (search rules) a.d.state a.d.flag a.d.value _ _ _ (search rules)
     c.cell_at.ensures.0 c.high_of.ensures c.low_of.ensures
-    c.put_four.ensures
+    c.put_bytes.ensures

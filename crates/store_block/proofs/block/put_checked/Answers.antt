@@ -20,7 +20,7 @@ loop-k-preserved c =
     let h = c.loop-k.invariant in
     let p = c.put_cell in
     let b = c.args.block.now in
-    more h _ _ (search rules) p.auto.block c.at.ensures
+    more h _ _ (search rules) (search rules) c.at.ensures
     (p.ensures ∙ ap (with_cell Checked _ _ _) h.reads ∙ column_cell Checked _ _ h.xs _ (decode_block b) (rw (nine_columns Checked b) (search rules)))
 
 pub returns : goal.returns

@@ -21,7 +21,7 @@ unfolding with_checked
 loop-e-preserved c =
     let l = c.loop-e in
     let p = c.put_checked in
-    more l.invariant _ _ (search rules) p.auto.block
+    more l.invariant _ _ (search rules) (search rules)
     (sym (map_at cells c.args.columns l.e (record { values = []; states = []; flags = [] }) [] (search rules)))
     (p.ensures ∙ ap (with_column Checked _ _) l.invariant.reads)
 

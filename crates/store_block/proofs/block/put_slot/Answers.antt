@@ -26,7 +26,7 @@ loop-e-preserved c =
     let l = c.loop-e in
     let h = l.invariant in
     let p = c.put_cell in
-    more h _ _ (search rules) p.auto.block
+    more h _ _ (search rules) (search rules)
     (rw (h.rest _ (le_refl _), map_at cell c.args.raw l.e (record { state = 0; flag = 0; value = 0 }) none (search rules)))
     (p.ensures ∙ ap (with_cell Raw _ _ _) h.reads)
 
