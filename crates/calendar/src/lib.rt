@@ -17,7 +17,7 @@ pub struct Date {
 fn is_leap(year: u32) -> bool
     ensures { result ≡ leap year }
 {
-    (year % 4 == 0) & (!(year % 100 == 0) | (year % 400 == 0))
+    year % 4 == 0 && (year % 100 != 0 || year % 400 == 0)
 }
 
 // The number of days of a month.
@@ -39,12 +39,10 @@ pub fn is_date(date: Date) -> bool
     ensures { result ≡ is_date date.year date.month date.day }
 {
     let last = days_in(date.year, date.month);
-    (2000 <= date.year)
-        & (date.year <= 2099)
-        & (1 <= date.month)
-        & (date.month <= 12)
-        & (1 <= date.day)
-        & (date.day <= last)
+    matches!(date.year, 2000..=2099)
+        && matches!(date.month, 1..=12)
+        && 1 <= date.day
+        && date.day <= last
 }
 
 // The day of the month of the day after.

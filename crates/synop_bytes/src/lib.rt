@@ -8,6 +8,7 @@ ghost use Rattle.synop_bytes.specs.Bytes as bytes;
 
 use refusals::Refusal;
 
+// By `&` and `|`, not by a match: without branches the loop over the bytes takes several at a time.
 #[tactic(auto, unfolding(crate::specs::Bytes::is_known))]
 fn is_known(b: u8) -> bool
     ensures { result ≡ bytes.is_known b }
@@ -37,6 +38,7 @@ fn is_ended(s: &[u8]) -> bool
 }
 
 // Whether all its bytes are known. The loop looks at all of them: without a way out of it, it takes several bytes at a time.
+#[tactic(auto, using(crate::proofs::Reading::knowing_none, crate::proofs::Reading::knowing_more, crate::proofs::Reading::known_all))]
 fn are_known(s: &[u8]) -> bool
     ensures { result ≡ bytes.check2 s.now }
 {

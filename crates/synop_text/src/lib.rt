@@ -49,19 +49,19 @@ pub struct Cursor {
 fn parts(b: u8) -> bool
     ensures { result ≡ characters.parts b }
 {
-    (b == b' ') | (b == b'\r') | (b == b'\n') | (b == b'=')
+    matches!(b, b' ' | b'\r' | b'\n' | b'=')
 }
 
 pub fn is_digit(b: u8) -> bool
     ensures { result ≡ characters.is_digit b }
 {
-    (b'0' <= b) & (b <= b'9')
+    matches!(b, b'0'..=b'9')
 }
 
 fn is_figure(b: u8) -> bool
     ensures { result ≡ characters.is_figure b }
 {
-    (b == b'/') | is_digit(b)
+    b == b'/' || is_digit(b)
 }
 
 #[tactic(auto, unfolding(crate::specs::Characters::are_figures))]
