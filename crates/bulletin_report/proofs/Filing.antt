@@ -1,48 +1,49 @@
 -- A report filed at a rank in a sound store: as much of it as the buffer holds answers for all of it, and the store stays sound.
 -- Assumes nothing.
 use mathlib.Core.Path.{◌≡◌, sym, ◌∙◌, ap, subst}
-use mathlib.Core.Bool.{Bool, true}
-use mathlib.Core.List.{List}
-use Prim.Native.Nat.{ℕ, ◌-◌}
-use native.Mathlib.Omega.{arith}
-use lib.ListN.{length, take}
+use mathlib.Core.Bool.{true}
+use mathlib.Core.List.{List, [], ◌∷◌, ◌++◌}
+use Prim.Native.Nat.{ℕ}
+use Rattle.std.specs.Prelude.{Result}
+use Rattle.refusals.specs.declared.Refusal.{Refusal}
 use Rattle.store_layout.specs.Layout.{decode}
 use Rattle.store_layout.specs.Sound.{sound}
 use Rattle.store_layout.specs.Valid.{is_rank}
 use Rattle.synop.specs.Report.{Report, report}
-use Rattle.rules.specs.Calls.{Answer, is_accepted, file, ask_file}
+use Rattle.rules.specs.Calls.{file, ask_file}
 use Rattle.rules.specs.Step.{Outcome, asked, step}
 use Rattle.rules.proofs.Steps.{sound_step}
 use Rattle.rules.proofs.Requests.{all_lawful}
 use Rattle.rules.proofs.Reports.{report_bounds, cut_report}
 use Rattle.engine_answers.specs.Good.{Good}
-use Rattle.engine_answers.specs.Replies.{Did}
+use Rattle.engine_answers.specs.Replies.{reply, Did}
 use Rattle.engine_filing.proofs.Filed.{file_ranked}
-use Rattle.text_bytes.specs.Written.{Holds}
-use Rattle.bulletin_text.specs.Rebuilt.{rebuilt}
+use Rattle.synop_text.specs.declared.Characters.{Characters}
+use Rattle.text_bytes.specs.Written.{Holds, Adds}
+use Rattle.text_bytes.proofs.Writing.{holds_more}
+use Rattle.bulletin_text.specs.Rebuilt.{spaced, heading, rebuilt}
 use Rattle.bulletin_report.specs.Filed.{Filed}
 
--- the part of a buffer from 0 on
-pub front : (buf : List ℕ) (m : ℕ) (t : List ℕ) → length buf ≡ 513 → Holds buf m t → take (m - 0) buf ≡ take 513 t
-front buf m t l v =
-    let z : m - 0 ≡ m = omega arith in
-    ap (λ (k : ℕ). take k buf) z ∙ v.same ∙ ap (λ (k : ℕ). take k t) l
+-- the text holds the report, or its first 513 bytes
+pub held : {begun squeezed ended : List ℕ} (time : Characters) (gs : List (List ℕ)) → begun ≡ heading time → Adds 513 begun squeezed (spaced gs) → Adds 513 squeezed ended (61 ∷ [])
+    → Holds 513 ended (rebuilt (heading time) gs)
+held time gs b f g = holds_more (heading time ++ spaced gs) (holds_more (heading time) b f) g
 
-module _ (rank : ℕ) (r : is_rank rank ≡ true) (head : List ℕ) (gs : List (List ℕ)) (s : List ℕ) where
-  pub filed : Good s → (t : List ℕ) → t ≡ take 513 (rebuilt head gs) → (a : Answer) (u : List ℕ) (b : Bool) → b ≡ is_accepted a
-      → Did (asked (ask_file rank (report t)) (decode s) s) a u → Filed rank head gs s b u
-  filed g t e a u b q d =
+module _ (rank : ℕ) (k : is_rank rank ≡ true) (head : List ℕ) (gs : List (List ℕ)) (s : List ℕ) where
+  pub filed : Good s → (t : List ℕ) → Holds 513 t (rebuilt head gs) → (r : Result (Unit {0}) Refusal) (u : List ℕ)
+      → Did (asked (ask_file rank (report t)) (decode s) s) (reply r) u → Filed rank head gs s r u
+  filed g t e r u d =
       record {
-        answer = q ∙ ap is_accepted w.answer ∙ sym (ap (λ (o : Outcome). is_accepted o.answer) p);
+        answer = w.answer ∙ sym (ap (λ (o : Outcome). o.answer) p);
         left = store;
         sound = ap sound store ∙ sound_step (all_lawful report_bounds) (file (rebuilt head gs) rank) s g.bytes g.sound;
       }
     where
-      w : Did (asked (ask_file rank (report (rebuilt head gs))) (decode s) s) a u
-      w = subst (λ (r : Report). Did (asked (ask_file rank r) (decode s) s) a u) (ap report e ∙ cut_report (rebuilt head gs)) d
+      w : Did (asked (ask_file rank (report (rebuilt head gs))) (decode s) s) (reply r) u
+      w = subst (λ (x : Report). Did (asked (ask_file rank x) (decode s) s) (reply r) u) (ap report e ∙ cut_report (rebuilt head gs)) d
 
       p : step (file (rebuilt head gs) rank) s ≡ asked (ask_file rank (report (rebuilt head gs))) (decode s) s
-      p = file_ranked (rebuilt head gs) rank s g.sound r
+      p = file_ranked (rebuilt head gs) rank s g.sound k
 
       store : u ≡ (step (file (rebuilt head gs) rank) s).store
       store = w.left ∙ sym (ap (λ (o : Outcome). o.store) p)

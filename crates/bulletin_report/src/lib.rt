@@ -9,28 +9,22 @@ ghost use Rattle.bulletin_text.specs.Rebuilt.{heading};
 ghost use Rattle.bulletin_report.specs.Filed.{Filed};
 
 use bulletin_text::{begin, squeeze};
-use engine_answers::Reply;
+use refusals::Refusal;
+use synop_text::Characters;
 use text_bytes::put;
 
-// A report filed at a rank in a sound store: whether it was accepted. Of one beyond 512 bytes the buffer has the first 513, which are refused as well.
+// A report filed at a rank in a sound store. Of one beyond 512 bytes the text has the first 513, which are refused as well.
 pub fn file_report(
     store: &mut [u8],
     rank: u8,
-    a: u8,
-    b: u8,
-    c: u8,
-    d: u8,
-    e: u8,
+    time: Characters,
     piece: &[u8],
-) -> bool
+) -> Result<(), Refusal>
     requires { (sound store.old ≡ true) × (is_rank rank ≡ true) }
-    ensures { Filed rank (heading a b c d e) (groups piece.now) store.old result store.new }
+    ensures { Filed rank (heading time) (groups piece.now) store.old result store.new }
 {
-    let mut buf = begin(a, b, c, d, e);
-    let n = squeeze(&mut buf, 10, piece);
-    let m = put(&mut buf, n, b'=');
-    match engine_filing::file_in(store, &buf[0..m], rank) {
-        Reply::Accepted => true,
-        Reply::Refused(_) => false,
-    }
+    let mut text = begin(time);
+    squeeze(&mut text, piece);
+    put(&mut text, b'=');
+    engine_filing::file_in(store, text.as_slice(), rank)
 }
