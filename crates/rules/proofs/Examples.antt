@@ -98,7 +98,7 @@ unfolding whole_text nil_text neighbour_text small_text bytes bytes_from table
     Digits.two Digits.three Digits.four
     Tables.temperature_of Elements.temperature Tables.moisture_of Elements.moisture Tables.pressure_of Elements.pressure Tables.wind_of Elements.wind_ff Elements.wind_fff Tables.cloud_of Elements.cloud Tables.visibility_of Elements.visibility Tables.rain_of Elements.rain
     Tables.rain_indicator_of figures.rain_indicator Tables.wind_direction_of figures.wind_direction figures.rain_duration_of figures.rain_duration
-    OneGroup.characters_of OneGroup.temperature OneGroup.moisture OneGroup.pressure OneGroup.wind_ff OneGroup.wind_fff OneGroup.cloud OneGroup.visibility OneGroup.rain OneGroup.rain_indicator OneGroup.rain_duration OneGroup.wind_direction
+    Kinds.characters_of OneGroup.temperature OneGroup.moisture OneGroup.pressure OneGroup.wind_ff OneGroup.wind_fff OneGroup.cloud OneGroup.visibility OneGroup.rain OneGroup.rain_indicator OneGroup.rain_duration OneGroup.wind_direction
     Contents.two_of Contents.station_of Contents.identification_of Contents.indicators_of Contents.wind_of Contents.values_of
     Parts.of_one Parts.of_three Parts.of_later Parts.first Parts.parts
     reports.content reports.read reports.report

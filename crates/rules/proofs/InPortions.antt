@@ -14,8 +14,7 @@ use lib.Dec.{ltb, eqb}
 use lib.ListN.{get_or, set}
 use Rattle.laws.proofs.Bools.{Known, is_true, is_false, known, cond_keeps}
 use Rattle.calendar.specs.Slots.{slot_of}
-use Rattle.calendar.specs.declared.Slot.{Slot}
-use Rattle.calendar.specs.declared.Slot.TheVariants.{At, Nothing}
+use Rattle.std.specs.Prelude.{Option, Some, None}
 use Rattle.quality.specs.Cell.{Cell}
 use Rattle.quality.specs.Limits.{warm}
 use Rattle.quality.specs.Settled.{settled, one_step}
@@ -184,18 +183,18 @@ module _ (d : Date) (row : ℕ) (dds : List ℕ) (raw : List (List Cell)) where
     abbrev Moved : Request → Effect → Type 0
     Moved request e = UnderWay (cond (steps_on request e) (suc n) n) (cond (reports_on request e) true r) (station_of e t)
 
-    moved_in : (k : Slot) (yy gg rank : ℕ) (head : Indicators) (values : List Value) → Moved (take yy gg rank head values) (file_in k rank head values t)
+    moved_in : (k : Option ℕ) (yy gg rank : ℕ) (head : Indicators) (values : List Value) → Moved (take yy gg rank head values) (file_in k rank head values t)
     unfolding file_at
-    moved_in Nothing yy gg rank head values = h
-    moved_in (At k) yy gg rank head values =
+    moved_in None yy gg rank head values = h
+    moved_in (Some k) yy gg rank head values =
         let old = head_of t.block k in
         let M : Effect → Type 0 = Moved (take yy gg rank head values) in
         cond_keeps M (ltb rank old.rank) h
         (cond_keeps M (eqb old.filed 1 && eqb rank old.rank) h (filed_on n r t h k rank head values l))
 
-    moved_by_nil : (k : Slot) (yy gg rank : ℕ) → Moved (take_nil yy gg rank) (nil_in k rank t)
-    moved_by_nil Nothing yy gg rank = h
-    moved_by_nil (At k) yy gg rank = h
+    moved_by_nil : (k : Option ℕ) (yy gg rank : ℕ) → Moved (take_nil yy gg rank) (nil_in k rank t)
+    moved_by_nil None yy gg rank = h
+    moved_by_nil (Some k) yy gg rank = h
 
     moved : (request : Request) → is_restart request ≡ false → (steps_on request (rule d request t) ≡ true → n < 3) → Moved request (rule d request t)
     unfolding rule

@@ -14,8 +14,7 @@ use lib.ListN.{get_or, set, get_or-map}
 use Rattle.laws.proofs.Bools.{Known, is_true, is_false, known, cond_keeps, by_cond}
 use Rattle.calendar.specs.Slots.{slot_of}
 use Rattle.calendar.proofs.Slots as slots
-use Rattle.calendar.specs.declared.Slot.{Slot}
-use Rattle.calendar.specs.declared.Slot.TheVariants.{At, Nothing}
+use Rattle.std.specs.Prelude.{Option, Some, None}
 use Rattle.synop_codes.specs.Value.{Value, missing, read, humidity, Within}
 use Rattle.store_layout.specs.Model.{Station, head_of}
 use Rattle.store_layout.specs.Valid.{ValidStation, is_direction, highest_rank, is_rank, is_under_way}
@@ -41,9 +40,9 @@ pub lawful_nil : (yy gg rank : ℕ) → Lawful (take_nil yy gg rank)
 unfolding rule
 lawful_nil yy gg rank d t u v e = go (slot_of d.year d.month d.day yy gg) e
   where
-    go : (k : Slot) → nil_in k rank t ≡ makes u → Kept t u
-    go Nothing q = absurd (never q)
-    go (At k) q = absurd (never q)
+    go : (k : Option ℕ) → nil_in k rank t ≡ makes u → Kept t u
+    go None q = absurd (never q)
+    go (Some k) q = absurd (never q)
 
 pub lawful_cell : (e k : ℕ) → Lawful (give_cell e k)
 unfolding rule
@@ -158,9 +157,9 @@ module _ (rank : ℕ) (r : is_rank rank ≡ true) (head : Indicators) (values : 
       free k l false true q = absurd (never q)
       free k l false false q = let e : filed k rank head values t ≡ u = cc in subst (Kept t) e (kept_filed k t l v)
 
-      at : (k : Slot) → slot_of d.year d.month d.day yy gg ≡ k → file_in k rank head values t ≡ makes u → Kept t u
-      at Nothing s q = absurd (never q)
-      at (At k) s q =
+      at : (k : Option ℕ) → slot_of d.year d.month d.day yy gg ≡ k → file_in k rank head values t ≡ makes u → Kept t u
+      at None s q = absurd (never q)
+      at (Some k) s q =
           let old = head_of t.block k in
           free k (slots.named d.year d.month d.day yy gg k s).below (ltb rank old.rank) (eqb old.filed 1 && eqb rank old.rank) q
 

@@ -1,10 +1,8 @@
 -- What a request does to a station: a function of the date D, the request and the station alone. "An answer to S may depend on D, S's row, the
 -- call itself and S's earlier calls, nothing else."
 -- Assumes nothing.
-use Rattle.std.specs.Prelude.{cond, ◌&&◌, ◌||◌, List, map, ℕ, suc, ◌+◌, leb, ltb, eqb, pos}
+use Rattle.std.specs.Prelude.{cond, ◌&&◌, ◌||◌, List, map, ℕ, suc, ◌+◌, leb, ltb, eqb, pos, Option, Some, None}
 use Rattle.calendar.specs.Slots.{slot_of}
-use Rattle.calendar.specs.declared.Slot.{Slot}
-use Rattle.calendar.specs.declared.Slot.TheVariants.{At, Nothing}
 use Rattle.synop_codes.specs.Value.{Value, missing, read, humidity}
 use Rattle.daily.specs.Line.{day_line}
 use Rattle.store_layout.specs.Model.{Block, Station, head_of}
@@ -73,13 +71,13 @@ file_at k rank head values t =
     (cond (eqb old.filed 1 && eqb rank old.rank) (keeps (refused 8)) (makes (filed k rank head values t)))
 
 -- "no such slot" is 7; "NIL is accepted and changes nothing"; S-3: "at any rank up to 24 and is not compared with the slot's"
-abbrev pub nil_in : Slot → ℕ → Station → Effect
-nil_in Nothing rank t = keeps (refused 7)
-nil_in (At k) rank t = keeps accepted
+abbrev pub nil_in : Option ℕ → ℕ → Station → Effect
+nil_in None rank t = keeps (refused 7)
+nil_in (Some k) rank t = keeps accepted
 
-abbrev pub file_in : Slot → ℕ → Indicators → List Value → Station → Effect
-file_in Nothing rank head values t = keeps (refused 7)
-file_in (At k) rank head values t = file_at k rank head values t
+abbrev pub file_in : Option ℕ → ℕ → Indicators → List Value → Station → Effect
+file_in None rank head values t = keeps (refused 7)
+file_in (Some k) rank head values t = file_at k rank head values t
 
 -- each slot's dd, and the copy of it that a settling under way reads
 abbrev pub directions : Block → List ℕ
