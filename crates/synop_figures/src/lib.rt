@@ -62,6 +62,7 @@ pub fn temperature(part: Option<Characters>) -> Option<u16>
 }
 
 // D, from 2sTTT: tenths of °C; or a humidity in percent, from 29UUU.
+// Not one function with `temperature`, whose digits it shares: a table passed as a closure needs a contract longer than the two bodies.
 #[tactic(auto, using(crate::proofs::Numbers::three_some), unfolding(crate::specs::OneGroup::moisture, crate::specs::Elements::moisture))]
 pub fn moisture(part: Option<Characters>) -> Option<Moisture>
     ensures { moisture result ≡ group.moisture part }
@@ -132,7 +133,7 @@ pub fn rain(part: Option<Characters>) -> Option<u16>
     rain_of(rrr)
 }
 
-// ---- a slot's head
+// ---- a slot's head. Where nothing was sent the answer stays a number, iR 5, tR 0 and dd 100: the store keeps these numbers.
 
 #[tactic(auto, using(crate::proofs::Numbers::digit_some), unfolding(crate::specs::Indicators::rain_duration_of))]
 fn duration_of(t: u8) -> u8
