@@ -17,7 +17,7 @@ fn last_digit(n: u32) -> u8
     b'0' + (n % 10) as u8
 }
 
-// A station's number in five digits.
+// A station's number in five digits. By hand, since `itoa` has no fixed width, and a width of `write!` lets a longer number be longer.
 pub fn five_digits(n: u32) -> [u8; 5]
     ensures { result ≡ numbers.five_digits n }
 {
