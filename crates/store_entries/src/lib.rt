@@ -3,7 +3,7 @@
 
 ghost use Rattle.std.specs.Prelude.{◌≡◌, ◌+◌, ◌<◌, ◌≤◌, length};
 ghost use Rattle.store_layout.specs.Model.{station_at};
-ghost use Rattle.store_layout.specs.Layout.{word, count_at, header_length, block_length, block_at, block_bytes, decode};
+ghost use Rattle.store_layout.specs.Layout.{word, count_at, header_length, block_length, block_at, decode_block, decode};
 ghost use Rattle.store_layout.specs.Framed.{Framed};
 ghost use Rattle.store_entries.specs.Marked.{Marked};
 
@@ -62,7 +62,7 @@ pub fn block_start(store: &[u8], index: usize) -> usize
 // The block of the station at an index.
 pub fn block_of(store: &[u8], index: usize) -> &[u8; BLOCK_LENGTH]
     requires { Framed store.now × (index < word store.now count_at) }
-    ensures { result.now ≡ block_bytes store.now (word store.now count_at) index }
+    ensures { decode_block result.now ≡ (station_at (decode store.now).stations index).block }
 {
     let at = block_start(store, index);
     store[at..at + BLOCK_LENGTH].as_array().unwrap()
