@@ -5,18 +5,13 @@ ghost use Rattle.std.specs.Prelude.{◌≡◌};
 ghost use Rattle.synop_codes.specs.Value as codes;
 ghost use Rattle.rules.specs.Dry.{is_dry, dry_duration, filed_duration, filed_rain};
 
-use synop_codes::Value;
 use synop_contents::Indicators;
 
 // Whether iR is 3, and R is absent from the report.
 fn is_dry(h: Indicators) -> bool
     ensures { result ≡ is_dry h }
 {
-    let absent = !h.rain_sent;
-    if h.rain_indicator == 3 {
-        return absent;
-    }
-    false
+    h.rain_indicator == 3 && !h.rain_sent
 }
 
 // tR that the R of a dry station has in slot k; 0 where it stays missing.
@@ -24,11 +19,8 @@ fn dry_duration(k: usize) -> u8
     ensures { result ≡ dry_duration k }
 {
     match k {
-        0 => 2,
-        4 => 2,
-        8 => 2,
-        2 => 1,
-        6 => 1,
+        0 | 4 | 8 => 2,
+        2 | 6 => 1,
         _ => 0,
     }
 }
@@ -43,15 +35,15 @@ pub fn filed_duration(k: usize, h: Indicators) -> u8
     h.rain_duration
 }
 
-// And R.
-pub fn filed_rain(k: usize, h: Indicators, rain: Value) -> Value
+// And R, in offset binary.
+pub fn filed_rain(k: usize, h: Indicators, rain: Option<u16>) -> Option<u16>
     ensures { codes.meaning result ≡ filed_rain k h (codes.meaning rain) }
 {
-    if is_dry(h) {
-        if dry_duration(k) == 0 {
-            return Value::Missing;
-        }
-        return Value::Read(32768);
+    if !is_dry(h) {
+        return rain;
     }
-    rain
+    match dry_duration(k) {
+        0 => None,
+        _ => Some(32768),
+    }
 }

@@ -10,20 +10,20 @@ ghost use Rattle.rules.specs.Rules.{raw_cell, filed_head, filed_cells};
 use engine_dry::{filed_duration, filed_rain};
 use quality::column::OffsetCell;
 use quality::head::SlotHead;
-use synop_codes::{Moisture, Value};
+use synop_codes::Moisture;
 use synop_contents::{Indicators, Values};
 
 // A report's value as a raw cell.
-fn raw_cell(v: Value) -> OffsetCell
+fn raw_cell(v: Option<u16>) -> OffsetCell
     ensures { cell result ≡ raw_cell (codes.meaning v) }
 {
     match v {
-        Value::Missing => OffsetCell {
+        None => OffsetCell {
             state: 0,
             flag: 0,
             value: 32768,
         },
-        Value::Read(x) => OffsetCell {
+        Some(x) => OffsetCell {
             state: 1,
             flag: 0,
             value: x,
@@ -32,13 +32,13 @@ fn raw_cell(v: Value) -> OffsetCell
 }
 
 // What group 2 gave as D's raw cell: a humidity has state 4.
-fn raw_moisture(m: Moisture) -> OffsetCell
+fn raw_moisture(m: Option<Moisture>) -> OffsetCell
     ensures { cell result ≡ raw_cell (codes.moisture m) }
 {
     match m {
-        Moisture::Nothing => raw_cell(Value::Missing),
-        Moisture::DewPoint(x) => raw_cell(Value::Read(x)),
-        Moisture::Humidity(u) => OffsetCell {
+        None => raw_cell(None),
+        Some(Moisture::DewPoint(x)) => raw_cell(Some(x)),
+        Some(Moisture::Humidity(u)) => OffsetCell {
             state: 4,
             flag: 0,
             value: 32768 + u as u16,
@@ -55,8 +55,8 @@ pub fn slot_head(k: usize, rank: u8, copy: u8, indicators: Indicators) -> SlotHe
         ir: indicators.rain_indicator,
         tr: filed_duration(k, indicators),
         dd: indicators.wind_direction,
-        rank: rank,
-        copy: copy,
+        rank,
+        copy,
     }
 }
 
@@ -64,24 +64,15 @@ pub fn slot_head(k: usize, rank: u8, copy: u8, indicators: Indicators) -> SlotHe
 pub fn raw_cells(k: usize, indicators: Indicators, v: Values) -> [OffsetCell; 9]
     ensures { map cell result ≡ filed_cells k indicators (listed v) }
 {
-    let temperature = v.temperature;
-    let moisture = v.moisture;
-    let pressure = v.pressure;
-    let wind = v.wind;
-    let cloud = v.cloud;
-    let visibility = v.visibility;
-    let rain = v.rain;
-    let maximum = v.maximum;
-    let minimum = v.minimum;
     [
-        raw_cell(temperature),
-        raw_moisture(moisture),
-        raw_cell(pressure),
-        raw_cell(wind),
-        raw_cell(cloud),
-        raw_cell(visibility),
-        raw_cell(filed_rain(k, indicators, rain)),
-        raw_cell(maximum),
-        raw_cell(minimum),
+        raw_cell(v.temperature),
+        raw_moisture(v.moisture),
+        raw_cell(v.pressure),
+        raw_cell(v.wind),
+        raw_cell(v.cloud),
+        raw_cell(v.visibility),
+        raw_cell(filed_rain(k, indicators, v.rain)),
+        raw_cell(v.maximum),
+        raw_cell(v.minimum),
     ]
 }
