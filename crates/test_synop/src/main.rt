@@ -5,78 +5,51 @@
 
 use std::io::Result;
 use synop::Report;
-use synop_codes::{Moisture, Value};
+use synop_codes::Moisture;
 use synop_contents::{Identification, Indicators, Values};
 
 // Standard input, of which at most a large buffer is read.
 const INPUT: i32 = 0;
 
-fn space(rt: &impl Print) -> Result<()> {
-    print!(rt; " ")
-}
-
-fn number(rt: &impl Print, n: u32) -> Result<()> {
-    space(rt)?;
-    print!(rt; "{n}")
-}
-
-// A zero before a number that is below `least`.
-fn padded(rt: &impl Print, n: u32, least: u32) -> Result<()> {
-    if n < least {
-        print!(rt; "0")?;
-    }
-    Ok(())
-}
-
 fn heading(rt: &impl Print, h: Identification) -> Result<()> {
-    let station = h.station;
-    let day = h.day;
-    let hour = h.hour;
-    padded(rt, station, 10000)?;
-    padded(rt, station, 1000)?;
-    padded(rt, station, 100)?;
-    padded(rt, station, 10)?;
-    print!(rt; "{station}")?;
-    space(rt)?;
-    padded(rt, day as u32, 10)?;
-    print!(rt; "{day}")?;
-    space(rt)?;
-    padded(rt, hour as u32, 10)?;
-    print!(rt; "{hour}")
+    print!(rt; "{:05} {:02} {:02}", h.station, h.day, h.hour)
+}
+
+fn number(rt: &impl Print, n: u8) -> Result<()> {
+    print!(rt; " {n}")
+}
+
+fn missing(rt: &impl Print) -> Result<()> {
+    print!(rt; " -")
 }
 
 fn head(rt: &impl Print, h: Indicators) -> Result<()> {
-    number(rt, h.rain_indicator as u32)?;
+    number(rt, h.rain_indicator)?;
     if h.rain_sent {
-        number(rt, h.rain_duration as u32)?;
+        number(rt, h.rain_duration)?;
     } else {
-        print!(rt; " -")?;
+        missing(rt)?;
     }
-    number(rt, h.wind_direction as u32)
+    number(rt, h.wind_direction)
 }
 
-fn value(rt: &impl Print, v: Value) -> Result<()> {
+// A value from its offset binary.
+fn read(rt: &impl Print, n: u16) -> Result<()> {
+    print!(rt; " {}", n as i32 - 32768)
+}
+
+fn value(rt: &impl Print, v: Option<u16>) -> Result<()> {
     match v {
-        Value::Missing => print!(rt; " -"),
-        Value::Read(n) => {
-            if n < 32768 {
-                let size = 32768 - n;
-                print!(rt; " -{size}")
-            } else {
-                number(rt, (n - 32768) as u32)
-            }
-        }
+        None => missing(rt),
+        Some(n) => read(rt, n),
     }
 }
 
-fn moisture(rt: &impl Print, m: Moisture) -> Result<()> {
+fn moisture(rt: &impl Print, m: Option<Moisture>) -> Result<()> {
     match m {
-        Moisture::Nothing => value(rt, Value::Missing),
-        Moisture::DewPoint(n) => value(rt, Value::Read(n)),
-        Moisture::Humidity(u) => {
-            number(rt, u as u32)?;
-            print!(rt; "%")
-        }
+        None => missing(rt),
+        Some(Moisture::DewPoint(n)) => read(rt, n),
+        Some(Moisture::Humidity(u)) => print!(rt; " {u}%"),
     }
 }
 
@@ -94,12 +67,12 @@ fn values(rt: &impl Print, v: Values) -> Result<()> {
 
 fn answer(rt: &impl Print, text: &[u8]) -> Result<()> {
     match synop::read(text) {
-        Report::Refused(n) => print!(rt; "{n}")?,
-        Report::Nil(h) => {
+        Err(refusal) => print!(rt; "{}", u32::from(refusal))?,
+        Ok(Report::Nil(h)) => {
             print!(rt; "NIL ")?;
             heading(rt, h)?;
         }
-        Report::Whole(h, d, v) => {
+        Ok(Report::Whole(h, d, v)) => {
             heading(rt, h)?;
             head(rt, d)?;
             values(rt, v)?;
@@ -110,13 +83,13 @@ fn answer(rt: &impl Print, text: &[u8]) -> Result<()> {
 
 // A line that begins with `#` is a heading, and is written as it is.
 fn line(rt: &impl Print, text: &[u8]) -> Result<()> {
-    if 0 < text.len() {
-        if text[0] == b'#' {
+    match text {
+        [b'#', ..] => {
             rt.write_all(text)?;
-            return print!(rt; "\n");
+            print!(rt; "\n")
         }
+        _ => answer(rt, text),
     }
-    answer(rt, text)
 }
 
 // What a character of a line stands for.
@@ -128,15 +101,17 @@ fn meant(b: u8) -> u8 {
     }
 }
 
+fn translate(text: &mut [u8]) {
+    for b in text {
+        *b = meant(*b);
+    }
+}
+
 fn lines(rt: &impl Print, buf: &mut [u8]) -> Result<()> {
-    let mut start = 0;
-    for i in 0..buf.len() {
-        let b = buf[i];
-        if b == b'\n' {
-            line(rt, &buf[start..i])?;
-            start = i + 1;
-        } else {
-            buf[i] = meant(b);
+    for text in buf.split_inclusive_mut(|&b| b == b'\n') {
+        if let [text @ .., b'\n'] = text {
+            translate(text);
+            line(rt, text)?;
         }
     }
     Ok(())
