@@ -1,5 +1,5 @@
 -- What the reports leave, filed one after the other, and what the code keeps of the one that is being read. Assumes nothing.
-use Rattle.std.specs.Prelude.{◌≡◌, cond, List, [], ◌∷◌, ℕ, ◌+◌, ◌≤◌, min, length}
+use Rattle.std.specs.Prelude.{◌≡◌, cond, List, [], ◌∷◌, ℕ, ◌+◌, min}
 use Rattle.text_bytes.specs.Written.{Holds}
 use Rattle.rules.specs.Calls.{is_accepted, file}
 use Rattle.rules.specs.Step.{step}
@@ -33,28 +33,22 @@ Filed report s n t m = record { store = t; refused = m } ≡ filing report (reco
 abbrev pub Ended : List ℕ → List ℕ → ℕ → List ℕ → ℕ → Type 0
 Ended run s n t m = record { store = t; refused = m } ≡ filings (tail run) (record { store = s; refused = n })
 
--- a buffer of 513 bytes, of which some are held
-pub record Room (kept : List ℕ) (held : ℕ) : Type 0 where
-  pub size : length kept ≡ 513
-  pub upto : held ≤ 513
-
 -- what the code has of a report of which `run` is read: its first 513 bytes, and whether all of it is blank
-pub record Under (run kept : List ℕ) (p : Progress) : Type 0 where
-  pub keeps : Holds kept p.held run
+pub record Under (run : List ℕ) (p : Progress) : Type 0 where
+  pub keeps : Holds 513 p.kept.items run
   pub blank : p.blank ≡ all_blank run
 
 -- the bytes s are read after `run`: the code has what is read of the report under way, and the whole ones are filed
-pub record Fed (run s : List ℕ) (t : Tally) (kept : List ℕ) (p : Progress) (store : List ℕ) : Type 0 where
-  pub under : Under (rest run s) kept p
+pub record Fed (run s : List ℕ) (t : Tally) (p : Progress) (store : List ℕ) : Type 0 where
+  pub under : Under (rest run s) p
   pub tally : record { store = store; refused = p.refused } ≡ filings (reports run s) t
 
--- the same of every `run` that the code may have read, and no more is kept than there is room for
-pub record Feeds (s kept : List ℕ) (p : Progress) (store kept' : List ℕ) (p' : Progress) (store' : List ℕ) : Type 0 where
-  pub room : Room kept' p'.held
-  pub fed : (run : List ℕ) → Under run kept p → Fed run s (record { store = store; refused = p.refused }) kept' p' store'
+-- the same of every `run` that the code may have read
+pub record Feeds (s : List ℕ) (p : Progress) (store : List ℕ) (p' : Progress) (store' : List ℕ) : Type 0 where
+  pub fed : (run : List ℕ) → Under run p → Fed run s (record { store = store; refused = p.refused }) p' store'
 
 -- before the first byte
 pub record Begun (p : Progress) : Type 0 where
-  pub held : p.held ≡ 0
-  pub under : (kept : List ℕ) → Under [] kept p
+  pub held : p.kept.items ≡ []
+  pub under : Under [] p
   pub none : p.refused ≡ 0

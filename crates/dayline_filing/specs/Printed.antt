@@ -1,7 +1,5 @@
 -- What is printed of a station: it is settled, and its day line goes into the text. Assumes nothing.
 use Rattle.std.specs.Prelude.{◌≡◌, List, [], ℕ}
-use Rattle.daily.specs.Coded.{rain_of, slot_of}
-use Rattle.text_bytes.specs.Written.{Written}
 use Rattle.dayline_print.specs.Printed.{station_text}
 use Rattle.rules.specs.Calls.{Answer, on_day, settle, day}
 use Rattle.rules.specs.Step.{step}
@@ -11,9 +9,9 @@ settled station s = (step (settle station) s).store
 
 -- nothing where there is no day line
 abbrev pub line_of : ℕ → Answer → List ℕ
-line_of station a = on_day (λ d. station_text station (rain_of d.rain) (slot_of d.warmest) (slot_of d.coldest) d.read d.corrected d.filled d.missing) [] a
+line_of station a = on_day (λ d. station_text station d.rain d.warmest d.coldest d.read d.corrected d.filled d.missing) [] a
 
--- the store and the buffer after the station's line was made
-pub record Printed (station : ℕ) (s t old buf : List ℕ) (n : ℕ) : Type 0 where
+-- the store after the station's line was made, and the line
+pub record Printed (station : ℕ) (s t text : List ℕ) : Type 0 where
   pub left : t ≡ settled station s
-  pub shows : Written old buf n (line_of station (step (day station) (settled station s)).answer)
+  pub shows : text ≡ line_of station (step (day station) (settled station s)).answer

@@ -2,127 +2,97 @@
 // it comes in pieces, and of a report no more than 513 bytes are kept, since one beyond 512 is refused whatever it holds.
 #![tactic(auto)]
 
-ghost use Rattle.std.specs.Prelude.{◌≡◌, List, [], ◌∷◌, ℕ, ◌≤◌};
+ghost use Rattle.std.specs.Prelude.{◌≡◌, List, [], ◌∷◌, ℕ};
 ghost use Rattle.text_bytes.specs.Written.{Holds};
-ghost use Rattle.dayline_filing.specs.Filing.{Begun, Room, Filed, Ended, Under, Feeds, more as Filing·more};
+ghost use Rattle.dayline_filing.specs.Filing.{Begun, Filed, Ended, Under, Feeds};
 ghost use Rattle.dayline_filing.specs.Opening.{OpenedBy};
 ghost use Rattle.dayline_filing.specs.Printed.{Printed};
 
+use arrayvec::ArrayVec;
 use dayline_print::day_text;
 use dayline_text::cut::is_blank;
 use dayline_text::first_line::Opening;
-use engine_answers::{DayReply, Reply};
+use refusals::Refusal;
 use text_bytes::put;
 
-// A store opened by what the first line said: whether it was.
-pub fn open(store: &mut [u8], o: Opening) -> bool
-    requires { o.count ≤ 32 }
-    ensures { OpenedBy o store.old result store.new }
+// A store opened by what the first line said.
+pub fn open(store: &mut [u8], opening: &Opening) -> Result<(), Refusal>
+    ensures { OpenedBy opening.now store.old result store.new }
 {
-    let n = o.count;
-    if n == 0 {
-        return false;
-    }
-    let stations = o.stations;
-    let rows = o.rows;
-    match engine::open(store, o.year, o.month, o.day, &stations[..n], &rows[..n]) {
-        Reply::Accepted => true,
-        Reply::Refused(_) => false,
-    }
+    engine::open(store, opening.date, &opening.stations, &opening.rows)
 }
 
-// The report that is being read: how many of its bytes are kept, whether all of it so far is blank, and the reports refused before it.
-#[derive(Clone, Copy)]
+// The reports as they are read: what is kept of the one under way, whether all of it so far is blank, and the reports refused before it.
+#[derive(Drop)]
 pub struct Progress {
-    pub held: usize,
+    pub kept: ArrayVec<u8, 513>,
     pub blank: bool,
     pub refused: u64,
 }
 
-// Nothing is read yet.
-pub fn begin() -> Progress
-    ensures { Begun result }
-{
-    Progress {
-        held: 0,
-        blank: true,
-        refused: 0,
-    }
-}
-
-// One report more that was refused.
-fn more(refused: u64) -> u64
-    ensures { result ≡ Filing·more refused }
-{
-    if refused < u64::MAX {
-        return refused + 1;
-    }
-    refused
-}
-
-// The report that is kept, filed: how many are refused then.
-fn finish(store: &mut [u8], kept: &[u8], held: usize, refused: u64) -> u64
-    requires { Room kept.now held }
-    ensures { (run : List ℕ) → Holds kept.now held run → Filed run store.old refused store.new result }
-{
-    match engine::file(store, &kept[..held], 0) {
-        Reply::Accepted => refused,
-        Reply::Refused(_) => more(refused),
-    }
-}
-
-// One byte of the input.
-fn feed_byte(store: &mut [u8], kept: &mut [u8], b: u8, p: Progress) -> Progress
-    requires { Room kept.old p.held }
-    ensures { Feeds (b ∷ []) kept.old p store.old kept.new result store.new }
-{
-    let held = put(kept, p.held, b);
-    if b == b'=' {
-        return Progress {
-            held: 0,
+impl Progress {
+    // Nothing is read yet.
+    pub fn new() -> Progress
+        ensures { Begun result }
+    {
+        Progress {
+            kept: ArrayVec::new(),
             blank: true,
-            refused: finish(store, kept, held, p.refused),
-        };
+            refused: 0,
+        }
     }
-    Progress {
-        held: held,
-        blank: p.blank & is_blank(b),
-        refused: p.refused,
+
+    // The report that is kept, filed; the next one begins.
+    fn finish(&mut self, store: &mut [u8])
+        ensures filed { (run : List ℕ) → Holds 513 self.old.kept.items run → Filed run store.old self.old.refused store.new self.new.refused }
+        ensures anew { Under [] self.new }
+    {
+        if engine::file(store, &self.kept, 0).is_err() {
+            self.refused = self.refused.saturating_add(1);
+        }
+        self.kept.clear();
+        self.blank = true;
+    }
+
+    // One byte of the input.
+    fn byte(&mut self, store: &mut [u8], b: u8)
+        ensures { Feeds (b ∷ []) self.old store.old self.new store.new }
+    {
+        put(&mut self.kept, b);
+        if b == b'=' {
+            self.finish(store);
+        } else {
+            self.blank &= is_blank(b);
+        }
+    }
+
+    // A piece of the input: its last report may go on in the next one.
+    pub fn feed(&mut self, store: &mut [u8], piece: &[u8])
+        ensures { Feeds piece.now self.old store.old self.new store.new }
+    {
+        for &b in piece {
+            self.byte(store, b);
+        }
+    }
+
+    // The end of the input: a blank tail is dropped, any other is a report. How many reports are refused.
+    pub fn tail(mut self, store: &mut [u8]) -> u64
+        ensures { (run : List ℕ) → Under run self → Ended run store.old self.refused store.new result }
+    {
+        if !self.blank {
+            self.finish(store);
+        }
+        self.refused
     }
 }
 
-// A piece of the input: its last report may go on in the next one.
-pub fn feed(store: &mut [u8], kept: &mut [u8], piece: &[u8], start: Progress) -> Progress
-    requires { Room kept.old start.held }
-    ensures { Feeds piece.now kept.old start store.old kept.new result store.new }
+// A station is settled, and its line given: none where it has no day line.
+pub fn station_text(store: &mut [u8], station: u32) -> ArrayVec<u8, 160>
+    ensures { Printed station store.old store.new result.items }
 {
-    let mut p = start;
-    let mut i = 0;
-    while i < piece.len() {
-        p = feed_byte(store, kept, piece[i], p);
-        i += 1;
-    }
-    p
-}
-
-// The end of the input: a blank tail is dropped, any other is a report. How many reports are refused.
-pub fn tail(store: &mut [u8], kept: &[u8], p: Progress) -> u64
-    requires { Room kept.now p.held }
-    ensures { (run : List ℕ) → Under run kept.now p → Ended run store.old p.refused store.new result }
-{
-    if p.blank {
-        return p.refused;
-    }
-    finish(store, kept, p.held, p.refused)
-}
-
-// A station is settled, and its line put into a buffer: how long it is.
-pub fn station_text(store: &mut [u8], station: u32, out: &mut [u8; 160]) -> usize
-    ensures { Printed station store.old store.new out.old out.new result }
-{
-    engine::settle(store, station);
+    let _settled = engine::settle(store, station);
     match engine::day(store, station) {
-        DayReply::Line(day) => day_text(out, station, day),
-        DayReply::Refused(_) => 0,
+        Ok(day) => day_text(station, day),
+        Err(_) => ArrayVec::new(),
     }
 }
