@@ -5,34 +5,17 @@
 
 use dayline_day::run;
 use dayline_input::first_line;
-use dayline_text::first_line::opened;
-use std::io::{Stdin, Stdout, Write};
-use store_numbers::at::{store_length, store_space};
+use std::io::{Result, Stdin, Stdout, Write};
 
-// The whole program over a buffer for the pieces of the input: whether all was read and written.
-fn whole(input: &mut Stdin, output: &mut Stdout, piece: &mut [u8]) -> bool {
-    let start = first_line(input, piece);
-    if start.failed {
-        return false;
-    }
-    let l = start.line;
-    let o = opened(l);
-    let size = store_length(o.count);
-    let mut store = store_space();
-    run(
-        input,
-        output,
-        &mut store[..size],
-        piece,
-        start.from,
-        start.got,
-        o,
-    )
+// The whole program over a buffer for the pieces of the input. An error says that a read or a write failed.
+fn whole(input: &mut Stdin, output: &mut Stdout, piece: &mut [u8]) -> Result<()> {
+    let start = first_line(input, piece)?;
+    run(input, output, piece, start)
 }
 
 fn main(rt: HostRuntime) {
     let mut piece = io::buffer();
-    if !whole(&mut rt.stdin(), &mut rt.stdout(), &mut piece) {
+    if whole(&mut rt.stdin(), &mut rt.stdout(), &mut piece).is_err() {
         let _ = rt
             .stderr()
             .write_all(b"dayline: a read or a write failed\n");

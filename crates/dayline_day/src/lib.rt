@@ -1,149 +1,88 @@
 // A day over an open store, for the program `dayline`: its reports read in pieces and filed, then the stations' lines printed.
 #![tactic(auto)]
 
-ghost use Rattle.std.specs.Prelude.{◌≡◌, ◌≤◌, length};
-ghost use Rattle.store_layout.specs.Layout.{store_length};
-ghost use Rattle.dayline_filing.specs.Filing.{Room};
 ghost use Rattle.dayline_input.specs.Input.{Placed};
 
-use dayline_filing::{Progress, begin, feed, open, station_text, tail};
-use dayline_input::read;
+use dayline_filing::{Progress, open, station_text};
+use dayline_input::{Place, Start, read};
 use dayline_print::refused_text;
 use dayline_text::first_line::Opening;
-use std::io::{Stdin, Stdout, Write};
+use std::io::{ErrorKind, Result, Stdin, Stdout, Write};
+use store_numbers::at::{store_length, store_space};
 
 // ---- the input
 
-// The reports of the pieces that are still to be read.
-#[derive(Clone, Copy)]
-struct Fed {
-    progress: Progress,
-    failed: bool,
-}
-
+// The reports of the pieces that are still to be read. The pieces are counted, up to a number that no run reaches.
 fn feed_all(
     input: &mut Stdin,
     store: &mut [u8],
-    kept: &mut [u8],
     piece: &mut [u8],
-    start: Progress,
-) -> Fed
-    requires { Room kept.old start.held }
-    ensures { Room kept.new result.progress.held }
-{
-    let mut p = start;
-    let mut turns = u64::MAX;
-    while turns > 0 {
-        let got = read(input, piece);
-        let n = got.count;
-        if n == 0 {
-            return Fed {
-                progress: p,
-                failed: got.failed,
-            };
+    progress: &mut Progress,
+) -> Result<()> {
+    for _ in 0..u64::MAX {
+        let got = read(input, piece)?;
+        if got == 0 {
+            return Ok(());
         }
-        p = feed(store, kept, &piece[..n], p);
-        turns -= 1;
+        progress.feed(store, &piece[..got]);
     }
-    Fed {
-        progress: p,
-        failed: true,
-    }
+    Err(ErrorKind::Other.into())
 }
 
-// How many reports were refused, unless the input could not be read to its end.
-#[derive(Clone, Copy)]
-struct Told {
-    refused: u64,
-    failed: bool,
-}
-
-// All reports, filed in an open store.
-fn reports(input: &mut Stdin, store: &mut [u8], piece: &mut [u8], from: usize, got: usize) -> Told
-    requires { Placed piece.old from got }
+// All reports, filed in an open store: how many were refused.
+fn reports(input: &mut Stdin, store: &mut [u8], piece: &mut [u8], place: Place) -> Result<u64>
+    requires { Placed piece.old place }
 {
-    let mut space = [0u8; 513];
-    let kept: &mut [u8] = &mut space;
-    let first = feed(store, kept, &piece[from..got], begin());
-    let all = feed_all(input, store, kept, piece, first);
-    let p = all.progress;
-    Told {
-        refused: tail(store, kept, p),
-        failed: all.failed,
-    }
+    let mut progress = Progress::new();
+    progress.feed(store, &piece[place.from..place.got]);
+    feed_all(input, store, piece, &mut progress)?;
+    Ok(progress.tail(store))
 }
 
 // ---- the output
 
-// Text to standard output: whether all of it was written.
-fn print(output: &mut Stdout, text: &[u8]) -> bool {
-    match output.write_all(text) {
-        Ok(()) => true,
-        Err(_) => false,
-    }
-}
-
-// A station's line.
-fn print_station(output: &mut Stdout, store: &mut [u8], station: u32) -> bool {
-    let mut out = [0u8; 160];
-    let n = station_text(store, station, &mut out);
-    print(output, &out[..n])
-}
-
 // The stations' lines; a write that fails ends them.
-fn print_all(output: &mut Stdout, store: &mut [u8], stations: &[u32]) -> bool {
-    for k in 0..stations.len() {
-        if !print_station(output, store, stations[k]) {
-            return false;
-        }
+fn print_all(output: &mut Stdout, store: &mut [u8], stations: &[u32]) -> Result<()> {
+    for &station in stations {
+        output.write_all(&station_text(store, station))?;
     }
-    true
+    Ok(())
+}
+
+// What is printed where the first line cannot open a store.
+fn print_unopened(output: &mut Stdout) -> Result<()> {
+    output.write_all(b"open 10\n")
 }
 
 // ---- the day
 
-// The day over an open store: whether all was read and written.
+// The day of the stations that the first line names. No line is printed of an input that cannot be read to its end.
 fn run_day(
     input: &mut Stdin,
     output: &mut Stdout,
-    store: &mut [u8],
     piece: &mut [u8],
-    from: usize,
-    got: usize,
-    stations: &[u32],
-) -> bool
-    requires { Placed piece.old from got }
+    place: Place,
+    opening: &Opening,
+) -> Result<()>
+    requires { Placed piece.old place }
 {
-    let told = reports(input, store, piece, from, got);
-    if told.failed {
-        return false;
+    let mut space = store_space();
+    let store = &mut space[..store_length(opening.stations.len())];
+    if open(store, opening).is_err() {
+        return print_unopened(output);
     }
-    if !print_all(output, store, stations) {
-        return false;
-    }
-    let mut out = [0u8; 160];
-    let n = refused_text(&mut out, told.refused);
-    print(output, &out[..n])
+    let refused = reports(input, store, piece, place)?;
+    print_all(output, store, &opening.stations)?;
+    output.write_all(&refused_text(refused))
 }
 
-// The day of the stations that the first line names.
-pub fn run(
-    input: &mut Stdin,
-    output: &mut Stdout,
-    store: &mut [u8],
-    piece: &mut [u8],
-    from: usize,
-    got: usize,
-    o: Opening,
-) -> bool
-    requires placed { Placed piece.old from got }
-    requires count_bound { o.count ≤ 32 }
-    requires store_len { length store.old ≡ store_length o.count }
+// The day behind a first line that is read.
+pub fn run(input: &mut Stdin, output: &mut Stdout, piece: &mut [u8], start: Start) -> Result<()>
+    requires { Placed piece.old start.place }
 {
-    if !open(store, o) {
-        return print(output, b"open 10\n");
+    let place = start.place;
+    match start.line.opened() {
+        Some(opening) => run_day(input, output, piece, place, &opening),
+        None => print_unopened(output),
     }
-    let n = o.count;
-    let stations = o.stations;
-    run_day(input, output, store, piece, from, got, &stations[..n])
 }
