@@ -3,6 +3,7 @@ ghost use Rattle.std.specs.Prelude.{◌≡◌, ◌&&◌, leb, ltb, length};
 ghost use Rattle.store_layout.specs.Opening.{openable};
 ghost use Rattle.store_opening.specs.Opened.{listed, Opened};
 
+use calendar::{Date, is_date};
 use refusals::Refusal;
 use store_fresh::put_fresh;
 use store_numbers::at::{MOST_STATIONS, store_length};
@@ -30,8 +31,8 @@ fn are_listed(stations: &[u32], rows: &[u16]) -> bool
 }
 
 // Whether a store of `size` bytes can be opened.
-fn is_openable(size: usize, year: u32, month: u32, day: u32, stations: &[u32], rows: &[u16]) -> bool
-    ensures { result ≡ openable size year month day stations.now rows.now }
+fn is_openable(size: usize, date: Date, stations: &[u32], rows: &[u16]) -> bool
+    ensures { result ≡ openable size date.year date.month date.day stations.now rows.now }
 {
     let n = stations.len();
     if n < 1 {
@@ -46,26 +47,19 @@ fn is_openable(size: usize, year: u32, month: u32, day: u32, stations: &[u32], r
     if size != store_length(n) {
         return false;
     }
-    if !calendar::is_date(year, month, day) {
+    if !is_date(date) {
         return false;
     }
     are_listed(stations, rows)
 }
 
 // A store opened for a date and stations with their climate rows, whatever the buffer held. Refused, no byte differs.
-pub fn open(
-    store: &mut [u8],
-    year: u32,
-    month: u32,
-    day: u32,
-    stations: &[u32],
-    rows: &[u16],
-) -> Result<(), Refusal>
-    ensures { Opened store.old year month day stations.now rows.now result store.new }
+pub fn open(store: &mut [u8], date: Date, stations: &[u32], rows: &[u16]) -> Result<(), Refusal>
+    ensures { Opened store.old date.year date.month date.day stations.now rows.now result store.new }
 {
-    if !is_openable(store.len(), year, month, day, stations, rows) {
+    if !is_openable(store.len(), date, stations, rows) {
         return Err(Refusal::Unopenable);
     }
-    put_fresh(store, year, month, day, stations, rows);
+    put_fresh(store, date, stations, rows);
     Ok(())
 }

@@ -27,13 +27,13 @@ returns-then-size-store_length c = unsized _ _ _ _ _ _ (λ e. c.if-size-store_le
 pub returns-then-not-is_date : goal.returns-then-not-is_date
 returns-then-not-is_date c =
     let a = c.args in
-    let s : openable a.size a.year a.month a.day a.stations.now a.rows.now ≡ (is_date a.year a.month a.day && listed a.stations.now a.rows.now) =
+    let s : openable a.size a.date.year a.date.month a.date.day a.stations.now a.rows.now ≡ (is_date a.date.year a.date.month a.date.day && listed a.stations.now a.rows.now) =
     sized _ _ _ _ _ _ (search rules) (search rules) (search rules) (search rules) in
     rw (s, ← c.is_date.ensures, c.if-not-is_date.true)
 
 pub returns : goal.returns
 returns c =
     let a = c.args in
-    let s : openable a.size a.year a.month a.day a.stations.now a.rows.now ≡ (is_date a.year a.month a.day && listed a.stations.now a.rows.now) =
+    let s : openable a.size a.date.year a.date.month a.date.day a.stations.now a.rows.now ≡ (is_date a.date.year a.date.month a.date.day && listed a.stations.now a.rows.now) =
     sized _ _ _ _ _ _ (search rules) (search rules) (search rules) (search rules) in
     c.are_listed.ensures ∙ sym (rw (s, ← c.is_date.ensures, c.if-not-is_date.false))
