@@ -8,6 +8,7 @@ ghost use Rattle.engine_answers.specs.Replies.{reply, cell_reply, SaysDay, Did, 
 ghost use Rattle.rules.specs.Step as Step;
 ghost use Rattle.rules.specs.Step.{step};
 
+use calendar::Date;
 use daily::DayLine;
 use engine_answers::Cell;
 use quality::head::HIGHEST_RANK;
@@ -16,17 +17,10 @@ use store_soundness::find::locate;
 use store_soundness::sound::is_sound;
 
 // A store opened for a date and stations, each with its climate row: refused 10.
-pub fn open(
-    store: &mut [u8],
-    year: u32,
-    month: u32,
-    day: u32,
-    stations: &[u32],
-    rows: &[u16],
-) -> Result<(), Refusal>
-    ensures { Did (open_outcome store.old year month day stations.now rows.now) (reply result) store.new }
+pub fn open(store: &mut [u8], date: Date, stations: &[u32], rows: &[u16]) -> Result<(), Refusal>
+    ensures { Did (open_outcome store.old date.year date.month date.day stations.now rows.now) (reply result) store.new }
 {
-    store_opening::open::open(store, year, month, day, stations, rows)
+    store_opening::open::open(store, date, stations, rows)
 }
 
 // A report filed at a rank, 0 for an ordinary one, 1 to 24 for CCA to CCX: refused 9, then 13 for a rank above 24, 1 to 7, 13 for a rank

@@ -1,14 +1,11 @@
 -- `engine_filing::slot_in` meets its contract.
-use Rattle.calendar.specs.Slots.{slot_of}
-use mathlib.Core.Path.{◌∙◌}
-use Rattle.engine_answers.proofs.Stores as Stores
+use Rattle.engine_answers.proofs.Stores.{headed}
 use Rattle.engine_filing.proofs.slot_in.Goals as goal
+
+pub date_of-date-requires : goal.date_of-date-requires
+date_of-date-requires c = headed c.requires
 
 pub returns : goal.returns
 returns c =
-    let h = c.args.h in
-    let d = c.date_of-d.ensures in
-    c.slot_of.ensures ∙ (λ j. slot_of (d.0 j) (d.1 j) (d.2 j) h.day h.hour)
-
-pub date_of-d-requires : goal.date_of-d-requires
-date_of-d-requires c = Stores.headed c.requires
+    let d = c.date_of-date.ensures in
+    cc (d.0, d.1, d.2, c.slot_of.ensures, c.from.ensures, c.from-2.ensures)

@@ -1,0 +1,2 @@
+-- Where a report lies in a store.
+pub mod Places
