@@ -29,7 +29,7 @@ pub enum Place {
     One(u8),
     // Section 2, 3, 4 or 5, and whether a 55 run is under way.
     Later(u8, bool),
-    // Out of order.
+    // Out of order. A place as the others: the walk goes on, since checks 3 and 4 are asked of the whole text first.
     Wrong,
 }
 
@@ -59,7 +59,8 @@ fn nil_after(p: Place) -> Place
     }
 }
 
-// The number of the section that a place is in, 0 for none.
+// The number of the section that a place is in, 0 for none. A number throughout: 0 is below each section, so that one comparison tells
+// whether there is one.
 fn section_of(p: Place) -> u8
     ensures { result ≡ places.section_of p }
 {
@@ -75,8 +76,7 @@ fn section_of(p: Place) -> u8
 fn opened(n: u8, m: u8) -> Place
     ensures { result ≡ places.opened n m }
 {
-    let follows = (1 <= n) & (n < m);
-    if follows {
+    if 1 <= n && n < m {
         return Place::Later(m, false);
     }
     Place::Wrong
@@ -87,8 +87,7 @@ fn opened(n: u8, m: u8) -> Place
 fn ordered(last: u8, x: Characters) -> Place
     ensures { result ≡ places.ordered last x }
 {
-    let second = (x.a == b'2') & (x.b == b'2') & (x.c == b'2');
-    if second {
+    if x.a == b'2' && x.b == b'2' && x.c == b'2' {
         return Place::Later(2, false);
     }
     if last < x.a {
@@ -102,8 +101,7 @@ fn ordered(last: u8, x: Characters) -> Place
 fn first_of_one(strong: bool, x: Characters) -> Place
     ensures { result ≡ places.first_of_one strong x }
 {
-    let gale = strong & (x.a == b'0') & (x.b == b'0');
-    if gale {
+    if strong && x.a == b'0' && x.b == b'0' {
         return Place::Gale;
     }
     ordered(b'0', x)
@@ -113,9 +111,9 @@ fn first_of_one(strong: bool, x: Characters) -> Place
 fn runs(run: bool, x: Characters) -> bool
     ensures { result ≡ places.runs run x }
 {
-    let begins = (x.a == b'5') & (x.b == b'5');
-    let ends = (b'7' <= x.a) & (x.a <= b'9');
-    begins | (run & !ends)
+    let begins = x.a == b'5' && x.b == b'5';
+    let ends = matches!(x.a, b'7'..=b'9');
+    begins || (run && !ends)
 }
 
 fn five_after(p: Place, x: Characters) -> Place
@@ -125,7 +123,7 @@ fn five_after(p: Place, x: Characters) -> Place
         Place::Letters => Place::Time,
         Place::Time => Place::Station,
         Place::Station => Place::Visibility,
-        Place::Visibility => Place::Wind((x.d == b'9') & (x.e == b'9')),
+        Place::Visibility => Place::Wind(x.d == b'9' && x.e == b'9'),
         Place::Wind(strong) => first_of_one(strong, x),
         Place::Gale => ordered(b'0', x),
         Place::One(last) => ordered(last, x),
@@ -158,5 +156,5 @@ pub fn is_nil(p: Place) -> bool
 pub fn complete(p: Place) -> bool
     ensures { result ≡ places.complete p }
 {
-    is_nil(p) | (1 <= section_of(p))
+    is_nil(p) || 1 <= section_of(p)
 }
