@@ -21,7 +21,7 @@ fn is_aaxx(g: Group) -> bool
 fn are_digits(x: Characters) -> bool
     ensures { result ≡ shapes.are_digits x }
 {
-    is_digit(x.a) & is_digit(x.b) & is_digit(x.c) & is_digit(x.d) & is_digit(x.e)
+    is_digit(x.a) && is_digit(x.b) && is_digit(x.c) && is_digit(x.d) && is_digit(x.e)
 }
 
 fn is_digits(g: Group) -> bool
@@ -59,6 +59,15 @@ pub fn shaped(p: Place, g: Group) -> bool
 
 // ---- 4: the heading's ranges
 
+// 00000.
+const NO_STATION: Characters = Characters {
+    a: b'0',
+    b: b'0',
+    c: b'0',
+    d: b'0',
+    e: b'0',
+};
+
 // YY.
 #[tactic(auto, unfolding(crate::specs::Ranges::is_day))]
 fn is_day(a: u8, b: u8) -> bool
@@ -88,7 +97,7 @@ fn is_unit(iw: u8) -> bool
 fn is_time(x: Characters) -> bool
     ensures { result ≡ ranges.is_time x }
 {
-    is_day(x.a, x.b) & is_hour(x.c, x.d) & is_unit(x.e)
+    is_day(x.a, x.b) && is_hour(x.c, x.d) && is_unit(x.e)
 }
 
 // IIiii.
@@ -96,7 +105,7 @@ fn is_time(x: Characters) -> bool
 fn is_station(x: Characters) -> bool
     ensures { result ≡ ranges.is_station x }
 {
-    !((x.a == b'0') & (x.b == b'0') & (x.c == b'0') & (x.d == b'0') & (x.e == b'0'))
+    x != NO_STATION
 }
 
 // Five characters after this place.
