@@ -69,8 +69,7 @@ fn in_three(g: Group) -> Option<Part>
 fn of_later(n: u8, run: bool, g: Group) -> Option<Part>
     ensures { result ≡ parts.of_later n run g }
 {
-    let counts = (n == 3) & !run;
-    if counts {
+    if n == 3 && !run {
         return in_three(g);
     }
     None
