@@ -77,7 +77,7 @@ fn walk(text: &[u8]) -> Result<Report, Refusal>
         if !synop_checks::shaped(place, g) {
             return Err(Refusal::Shape);
         }
-        ranged = ranged & synop_checks::ranged(place, g);
+        ranged &= synop_checks::ranged(place, g);
         place = synop_order::next(place, g);
         kept.keep(place, g);
         cursor = next;
