@@ -9,7 +9,7 @@ ghost use Rattle.quality.specs.Valid.{ValidSheet};
 ghost use Rattle.rules.specs.Rules.{copies, cleared};
 
 use quality::step::Step;
-use store_block::block::{Copies, Dd, directions, put_copies, put_sheet, sheet_of};
+use store_block::block::{Copies, Dd, as_block, directions, put_copies, put_sheet, sheet_of};
 use store_cells::Area;
 
 // A settling begun: the raw cells copied to the checked ones, and each slot's dd beside them.
@@ -17,6 +17,7 @@ pub fn begin_block(block: &mut [u8])
     requires { length block.old ≡ block_length }
     ensures { decode_block block.new ≡ with_copies (λ h. h.dd) (with_checked (decode_block block.old).raw (decode_block block.old)) }
 {
+    let block = as_block(block);
     let copied = sheet_of(block, Area::Raw);
     put_sheet(block, copied);
     put_copies(block, Copies::Taken);
@@ -27,6 +28,7 @@ pub fn step_block(block: &mut [u8], step: Step, row: usize, warm: bool)
     requires { (length block.old ≡ block_length) × (row < 2) × ValidSheet (decode_block block.old).checked }
     ensures { decode_block block.new ≡ cleared step (with_checked (one_step step row warm (copies (decode_block block.old)) (decode_block block.old).checked) (decode_block block.old)) }
 {
+    let block = as_block(block);
     let checked = sheet_of(block, Area::Checked);
     let dd = directions(block, Dd::Copy);
     put_sheet(block, quality_steps::one_step(step, row, warm, dd, checked));

@@ -14,7 +14,7 @@ ghost use Rattle.rules.specs.Step.{after};
 
 use engine_numbers::reported;
 use refusals::Refusal;
-use store_block::block::{head_of, put_slot};
+use store_block::block::{as_block, head_of, put_slot};
 use store_numbers::at::BLOCK_LENGTH;
 use synop_contents::{Indicators, Values};
 
@@ -31,9 +31,15 @@ fn put_report(block: &mut [u8], k: usize, f: Filing)
     requires { (length block.old ≡ block_length) × (k < 9) }
     ensures { decode_block block.new ≡ with_slot k (filed_head k f.rank (head_of (decode_block block.old) k).copy f.indicators) (filed_cells k f.indicators (listed f.values)) (decode_block block.old) }
 {
+    let block = as_block(block);
     let old = head_of(block, k);
     let h = engine_slot::slot_head(k, f.rank, old.copy, f.indicators);
-    put_slot(block, k, h, engine_slot::raw_cells(k, f.indicators, f.values));
+    put_slot(
+        block,
+        k,
+        h,
+        engine_slot::raw_cells(k, f.indicators, f.values),
+    );
 }
 
 // A report written to slot k of the station at an index, whatever the slot holds. The station is no longer settled.
@@ -56,9 +62,7 @@ pub fn file_at(store: &mut [u8], index: usize, k: usize, f: Filing) -> Result<()
     requires slot { k < 9 }
     ensures { Did (after (file_at k f.rank f.indicators (listed f.values) (station_at (decode store.old).stations index)) index (decode store.old) store.old) (reply result) store.new }
 {
-    let a = store_entries::block_start(store, index);
-    let b = a + BLOCK_LENGTH;
-    let old = head_of(&store[a..b], k);
+    let old = head_of(store_entries::block_of(store, index), k);
     if f.rank < old.rank {
         return Err(Refusal::Rank);
     }

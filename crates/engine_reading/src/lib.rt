@@ -14,8 +14,7 @@ use laws::difference;
 use refusals::Refusal;
 use store_block::block::{heads_of, sheet_of};
 use store_cells::{Area, cell_of};
-use store_entries::{block_start, settled_of};
-use store_numbers::at::BLOCK_LENGTH;
+use store_entries::{block_of, settled_of};
 
 // One checked cell of the station at an index.
 pub fn give_cell(store: &[u8], index: usize, element: u32, slot: u32) -> Result<Cell, Refusal>
@@ -29,9 +28,12 @@ pub fn give_cell(store: &[u8], index: usize, element: u32, slot: u32) -> Result<
     if settled_of(store, index) != 1 {
         return Err(Refusal::NotSettled);
     }
-    let a = block_start(store, index);
-    let b = a + BLOCK_LENGTH;
-    let d = cell_of(&store[a..b], Area::Checked, element as usize, slot as usize);
+    let d = cell_of(
+        block_of(store, index),
+        Area::Checked,
+        element as usize,
+        slot as usize,
+    );
     Ok(Cell {
         state: d.state,
         flag: d.flag,
@@ -47,9 +49,8 @@ pub fn give_day(store: &[u8], index: usize) -> Result<DayLine, Refusal>
     if settled_of(store, index) != 1 {
         return Err(Refusal::NotSettled);
     }
-    let a = block_start(store, index);
-    let b = a + BLOCK_LENGTH;
-    let checked = sheet_of(&store[a..b], Area::Checked);
-    let heads = heads_of(&store[a..b]);
+    let block = block_of(store, index);
+    let checked = sheet_of(block, Area::Checked);
+    let heads = heads_of(block);
     Ok(daily_line::day_line(checked, heads))
 }

@@ -11,7 +11,7 @@ ghost use Rattle.engine_answers.specs.Good.{StationAt};
 ghost use Rattle.rules.specs.Rules.{directions, settled_station};
 ghost use Rattle.rules.specs.Reaction.{date_of};
 
-use store_block::block::{Copies, Dd, directions, put_copies, put_sheet, sheet_of};
+use store_block::block::{Copies, Dd, as_block, directions, put_copies, put_sheet, sheet_of};
 use store_cells::Area;
 use store_entries::{block_start, date_of, row_of, set_settled};
 use store_numbers::at::BLOCK_LENGTH;
@@ -21,6 +21,7 @@ fn settle_block(block: &mut [u8], row: usize, warm: bool)
     requires { (length block.old ≡ block_length) × (row < 2) × ValidSheet (decode_block block.old).raw }
     ensures { decode_block block.new ≡ with_copies (λ h. 0) (with_checked (settled row warm (directions (decode_block block.old)) (decode_block block.old).raw) (decode_block block.old)) }
 {
+    let block = as_block(block);
     let raw = sheet_of(block, Area::Raw);
     let dd = directions(block, Dd::Own);
     let checked = quality_steps::settle(row, warm, dd, raw);

@@ -27,7 +27,7 @@ by s i e w = did_as (ap (λ (d : Effect). after d i (decode s) s) e) w
 pub returns-then-f-old : goal.returns-then-f-old
 returns-then-f-old c =
     let o = c.args in
-    let e = there o.store.now o.index o.k (Stores.part_block c.requires.station c.block_start-a.ensures.0) c.head_of-old.ensures in
+    let e = there o.store.now o.index o.k c.block_of.ensures c.head_of-old.ensures in
     by o.store.now o.index
     (Placed.above o.k o.f.rank o.f.indicators (listed o.f.values) (station_at (decode o.store.now).stations o.index) e c.if-f-old.true)
     (record { answer = refl; left = refl })
@@ -35,7 +35,7 @@ returns-then-f-old c =
 pub returns-then-filed_already : goal.returns-then-filed_already
 returns-then-filed_already c =
     let o = c.args in
-    let e = there o.store.now o.index o.k (Stores.part_block c.requires.station c.block_start-a.ensures.0) c.head_of-old.ensures in
+    let e = there o.store.now o.index o.k c.block_of.ensures c.head_of-old.ensures in
     by o.store.now o.index
     (Placed.already o.k o.f.rank o.f.indicators (listed o.f.values) (station_at (decode o.store.now).stations o.index) e c.if-f-old.false c.if-filed_already.true)
     (record { answer = refl; left = refl })
@@ -43,10 +43,10 @@ returns-then-filed_already c =
 pub returns : goal.returns
 returns c =
     let o = c.args in
-    let e = there o.store.now o.index o.k (Stores.part_block c.requires.station c.block_start-a.ensures.0) c.head_of-old.ensures in
+    let e = there o.store.now o.index o.k c.block_of.ensures c.head_of-old.ensures in
     by o.store.now o.index
     (Placed.free o.k o.f.rank o.f.indicators (listed o.f.values) (station_at (decode o.store.now).stations o.index) e c.if-f-old.false c.if-filed_already.false)
     (record { answer = refl; left = c.put_filed.ensures })
 
-pub block_start-a-requires : goal.block_start-a-requires
-block_start-a-requires c = Stores.at_index c.requires.station
+pub block_of-requires : goal.block_of-requires
+block_of-requires c = Stores.at_index c.requires.station

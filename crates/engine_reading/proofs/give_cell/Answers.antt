@@ -12,14 +12,14 @@ use Rattle.quality.specs.Elements.{column}
 use Rattle.store_layout.specs.Model.{Block}
 use Rattle.rules.specs.Calls.{a_cell}
 use Rattle.rules.specs.Rules.{cell_of}
-use Rattle.engine_answers.proofs.Stores.{at_index, part_block}
+use Rattle.engine_answers.proofs.Stores.{at_index}
 use Rattle.engine_reading.proofs.give_cell.Goals as goal
 
 pub cell_of-d-requires : goal.cell_of-d-requires
 cell_of-d-requires c =
     let o = c.args in
     let w = both {a = leb o.element 8} {b = leb o.slot 8} c.if-not-within.false in
-    (search rules, omega (arith, leb-true o.element 8 w.0), omega (arith, leb-true o.slot 8 w.1))
+    (omega (arith, leb-true o.element 8 w.0), omega (arith, leb-true o.slot 8 w.1))
 
 pub returns : goal.returns
 unfolding cell_of
@@ -29,7 +29,7 @@ returns c =
     rw (c.if-not-within.false, eq-eqb _ 1 (sym c.settled_of.ensures ∙ c.if-settled_of-ne1.false))
     (ap a_cell
     ((λ j. record { state = d.result.state; flag = d.result.flag; value = (to_z-of_z {w = w32} (search rules) ∙ c.difference.ensures) j })
-    ∙ d.ensures ∙ ap (λ (x : Block). slot (column x.checked o.args.element) o.args.slot) (part_block o.requires c.block_start-a.ensures.0)))
+    ∙ d.ensures ∙ ap (λ (x : Block). slot (column x.checked o.args.element) o.args.slot) c.block_of.ensures))
 
 pub returns-then-not-within : goal.returns-then-not-within
 unfolding cell_of
@@ -43,6 +43,6 @@ pub returns-then-settled_of-ne1 : goal.returns-then-settled_of-ne1
 unfolding cell_of
 returns-then-settled_of-ne1 c = rw (c.if-not-within.false, ne_eqb _ 1 (λ q. c.if-settled_of-ne1.true (c.settled_of.ensures ∙ q)))
 
-pub block_start-a-requires : goal.block_start-a-requires
+pub block_of-requires : goal.block_of-requires
 unfolding cell_of
-block_start-a-requires c = at_index c.requires
+block_of-requires c = at_index c.requires

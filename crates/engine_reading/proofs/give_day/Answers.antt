@@ -6,20 +6,20 @@ use Rattle.store_layout.specs.Model.{Block}
 use Rattle.daily.specs.Line.{day_line}
 use Rattle.daily.specs.Coded.{Says}
 use Rattle.rules.specs.Rules.{day_of}
-use Rattle.engine_answers.proofs.Stores.{at_index, valid_station, part_block}
+use Rattle.engine_answers.proofs.Stores.{at_index, valid_station}
 use Rattle.engine_reading.proofs.give_day.Goals as goal
 
 pub day_line-requires : goal.day_line-requires
 day_line-requires c =
     let o = c.requires in
-    subst ValidSheet (sym (c.sheet_of-checked.ensures ∙ ap (λ (x : Block). x.checked) (part_block o c.block_start-a.ensures.0)))
+    subst ValidSheet (sym (c.sheet_of-checked.ensures ∙ ap (λ (x : Block). x.checked) c.block_of-block.ensures))
     (valid_station o).block.checked
 
 pub returns : goal.returns
 unfolding day_of
 returns c =
     let o = c.requires in
-    let e = part_block o c.block_start-a.ensures.0 in
+    let e = c.block_of-block.ensures in
     rw (eq-eqb _ 1 (sym c.settled_of.ensures ∙ c.if-settled_of-ne1.false))
     (subst (Says _) (ap₂ day_line (c.heads_of-heads.ensures ∙ ap (λ (x : Block). x.heads) e) (c.sheet_of-checked.ensures ∙ ap (λ (x : Block). x.checked) e)) c.day_line.ensures)
 
@@ -31,6 +31,6 @@ pub returns-then-settled_of-ne1 : goal.returns-then-settled_of-ne1
 unfolding day_of
 returns-then-settled_of-ne1 c = rw (ne_eqb _ 1 (λ q. c.if-settled_of-ne1.true (c.settled_of.ensures ∙ q)))
 
-pub block_start-a-requires : goal.block_start-a-requires
+pub block_of-block-requires : goal.block_of-block-requires
 unfolding day_of
-block_start-a-requires c = at_index c.requires
+block_of-block-requires c = at_index c.requires
