@@ -1,0 +1,2 @@
+-- Laws of the day's rain.
+pub mod Amounts
