@@ -19,8 +19,10 @@ use Rattle.engine_filing.proofs.Filed.{file_high}
 use Rattle.bulletin_text.specs.Pieces.{parted, none}
 use Rattle.bulletin_text.specs.Heading.{heading_in}
 use Rattle.bulletin_text.specs.Rebuilt.{heading, rebuilt}
-use Rattle.bulletin_text.specs.declared.Heading.{Heading}
-use Rattle.bulletin_text.specs.declared.Heading.TheVariants.{Faulty, Timed}
+use Rattle.refusals.specs.declared.Refusal.{Refusal}
+use Rattle.std.specs.Prelude as prelude
+use Rattle.std.specs.Prelude.{Ok, Err}
+use Rattle.synop_text.specs.declared.Characters.{Characters}
 use Rattle.bulletin.specs.Bulletin.{Counts, counted, filing, filings, at_first, under, headed, taken, result_in}
 use Rattle.bulletin.specs.Filings.{report_calls, calls_under, headed_calls, bulletin_calls, AsCalls}
 
@@ -36,10 +38,10 @@ module _ (rank : ℕ) where
   reports_left head (gs ∷ []) t = tail_keeps (none gs) t
   reports_left head (gs ∷ hs ∷ more) t = reports_left head (hs ∷ more) (filing ours rank head gs t)
 
-  under_left : (h : Heading) (ps : List (List (List ℕ))) (s : List ℕ) → (under ours rank h ps s).store ≡ left step (calls_under rank h ps) s
+  under_left : (h : prelude.Result Characters Refusal) (ps : List (List (List ℕ))) (s : List ℕ) → (under ours rank h ps s).store ≡ left step (calls_under rank h ps) s
   unfolding left
-  under_left (Faulty n) ps s = refl
-  under_left (Timed a b c d e) ps s = reports_left (heading a b c d e) ps (at_first s)
+  under_left (Err n) ps s = refl
+  under_left (Ok x) ps s = reports_left (heading x) ps (at_first s)
 
   headed_left : (ps : List (List (List ℕ))) (s : List ℕ) → (headed ours rank ps s).store ≡ left step (headed_calls rank ps) s
   unfolding headed headed_calls left
@@ -63,10 +65,10 @@ module _ (rank : ℕ) where
     none_filed head (gs ∷ []) = refl
     none_filed head (gs ∷ hs ∷ more) = ap (left step (report_calls rank head (hs ∷ more))) (h (rebuilt head gs)) ∙ none_filed head (hs ∷ more)
 
-    none_under : (t : Heading) (ps : List (List (List ℕ))) → left step (calls_under rank t ps) s ≡ s
+    none_under : (t : prelude.Result Characters Refusal) (ps : List (List (List ℕ))) → left step (calls_under rank t ps) s ≡ s
     unfolding left
-    none_under (Faulty n) ps = refl
-    none_under (Timed a b c d e) ps = none_filed (heading a b c d e) ps
+    none_under (Err n) ps = refl
+    none_under (Ok x) ps = none_filed (heading x) ps
 
     none_headed : (ps : List (List (List ℕ))) → left step (headed_calls rank ps) s ≡ s
     unfolding headed_calls left

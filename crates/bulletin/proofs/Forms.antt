@@ -20,8 +20,11 @@ use Rattle.rules.proofs.FormExamples.{padded, padded_lawful}
 use Rattle.bulletin_text.specs.Pieces.{parted, none}
 use Rattle.bulletin_text.specs.Heading.{heading_in}
 use Rattle.bulletin_text.specs.Rebuilt.{heading, rebuilt}
-use Rattle.bulletin_text.specs.declared.Heading.{Heading}
-use Rattle.bulletin_text.specs.declared.Heading.TheVariants.{Faulty, Timed}
+use Rattle.refusals.specs.declared.Refusal.{Refusal}
+use Rattle.refusals.specs.Refusals.{number}
+use Rattle.std.specs.Prelude as prelude
+use Rattle.std.specs.Prelude.{Ok, Err}
+use Rattle.synop_text.specs.declared.Characters.{Characters}
 use Rattle.bulletin.specs.Bulletin.{Counts, counted, filing, filings, at_first, Result, counts, unchanged, under, headed, taken, result_in}
 use Rattle.bulletin.specs.Forms.{SameBulletins}
 
@@ -72,10 +75,10 @@ module _ (rules : AllLawful) (f g : Form) (p : LawfulForm f) (q : LawfulForm g) 
     refused_whole : (n : ℕ) → SameResult (unchanged n s) (unchanged n t)
     refused_whole n = record { answer = refl; stores = a }
 
-    same_under : (h : Heading) (ps : List (List (List ℕ))) → SameResult (under f rank h ps s) (under g rank h ps t)
-    same_under (Faulty n) ps = refused_whole n
-    same_under (Timed b c d e h) ps =
-        let k = same_filings (heading b c d e h) ps (at_first s) (at_first t) (record { stores = a; accepted = refl; refused = refl }) in
+    same_under : (h : prelude.Result Characters Refusal) (ps : List (List (List ℕ))) → SameResult (under f rank h ps s) (under g rank h ps t)
+    same_under (Err n) ps = refused_whole (number n)
+    same_under (Ok x) ps =
+        let k = same_filings (heading x) ps (at_first s) (at_first t) (record { stores = a; accepted = refl; refused = refl }) in
         record { answer = ap₂ counts k.accepted k.refused; stores = k.stores }
 
     same_headed : (ps : List (List (List ℕ))) → SameResult (headed f rank ps s) (headed g rank ps t)

@@ -1,6 +1,10 @@
 -- What a bulletin answers and leaves: "It does what filing each with that heading .. does in order, and counts accepted and refused."
 -- Assumes nothing.
-use Rattle.std.specs.Prelude.{◌≡◌, Bool, true, false, cond, ◌&&◌, List, [], ◌∷◌, ℕ, ◌+◌, ◌≤◌, leb, length, drop}
+use Rattle.std.specs.Prelude.{◌≡◌, Bool, true, false, cond, ◌&&◌, List, [], ◌∷◌, ℕ, ◌+◌, ◌≤◌, leb, length, drop, Ok, Err}
+use Rattle.std.specs.Prelude as prelude
+use Rattle.refusals.specs.declared.Refusal.{Refusal}
+use Rattle.refusals.specs.Refusals.{number}
+use Rattle.synop_text.specs.declared.Characters.{Characters}
 use Rattle.store_layout.specs.Form.{Form, ours}
 use Rattle.store_layout.specs.Sound.{sound}
 use Rattle.store_layout.specs.Valid.{is_rank}
@@ -9,10 +13,7 @@ use Rattle.rules.specs.Step.{step_in}
 use Rattle.bulletin_text.specs.Pieces.{parted, none}
 use Rattle.bulletin_text.specs.Heading.{heading_in}
 use Rattle.bulletin_text.specs.Rebuilt.{heading, rebuilt}
-use Rattle.bulletin_text.specs.declared.Heading.{Heading}
-use Rattle.bulletin_text.specs.declared.Heading.TheVariants.{Faulty, Timed}
-use Rattle.bulletin.specs.declared.BulletinReply.{BulletinReply}
-use Rattle.bulletin.specs.declared.BulletinReply.TheVariants as reply
+use Rattle.bulletin.specs.declared.Tally.{Tally}
 
 -- the store and the counts so far
 pub record Counts : Type 0 where
@@ -62,9 +63,9 @@ module _ (form : Form) where
     filings head (gs ∷ []) t = tail gs t
     filings head (gs ∷ hs ∷ more) t = filings head (hs ∷ more) (filing head gs t)
 
-    abbrev pub under : Heading → List (List (List ℕ)) → List ℕ → Result
-    under (Faulty n) ps s = unchanged n s
-    under (Timed a b c d e) ps s = told (filings (heading a b c d e) ps (at_first s))
+    abbrev pub under : prelude.Result Characters Refusal → List (List (List ℕ)) → List ℕ → Result
+    under (Err r) ps s = unchanged (number r) s
+    under (Ok x) ps s = told (filings (heading x) ps (at_first s))
 
     -- the heading is the first two groups of the first piece, and the reports stand behind it
     unfoldable pub headed : List (List (List ℕ)) → List ℕ → Result
@@ -84,11 +85,11 @@ abbrev pub result : List ℕ → List ℕ → ℕ → Result
 result = result_in ours
 
 -- what the code's answer says
-abbrev pub answered : BulletinReply → Answered
-answered (reply.Counted t) = counts t.accepted t.refused
-answered (reply.Refused n) = whole n
+abbrev pub answered : prelude.Result Tally Refusal → Answered
+answered (Ok t) = counts t.accepted t.refused
+answered (Err r) = whole (number r)
 
-pub record Gave (r : Result) (a : BulletinReply) (t : List ℕ) : Type 0 where
+pub record Gave (r : Result) (a : prelude.Result Tally Refusal) (t : List ℕ) : Type 0 where
   pub answer : answered a ≡ r.answer
   pub left : t ≡ r.store
 
@@ -98,9 +99,8 @@ pub record Tallied (t : Counts) (a r : ℕ) (s : List ℕ) : Type 0 where
   pub refused : r ≡ t.refused
   pub left : s ≡ t.store
 
--- the reports of a text that is not too long stand from `at` on, the store is sound, and the rank is one
-pub record Ready (s text : List ℕ) (at rank : ℕ) : Type 0 where
+-- the text of the reports is not too long, the store is sound, and the rank is one
+pub record Ready (s text : List ℕ) (rank : ℕ) : Type 0 where
   pub sound : sound s ≡ true
-  pub upto : at ≤ length text
   pub short : length text ≤ 16384
   pub ranked : is_rank rank ≡ true

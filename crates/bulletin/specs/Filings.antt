@@ -1,15 +1,15 @@
 -- A bulletin as calls: "It does what filing each with that heading .. does in order". So what is proved of runs of calls holds also where
 -- some of their reports come in bulletins.
 -- Assumes nothing.
-use Rattle.std.specs.Prelude.{◌≡◌, cond, ◌&&◌, List, [], ◌∷◌, ℕ, leb, length, drop}
+use Rattle.std.specs.Prelude.{◌≡◌, cond, ◌&&◌, List, [], ◌∷◌, ℕ, leb, length, drop, Result, Ok, Err}
 use Rattle.rules.specs.Calls.{Call, file}
 use Rattle.rules.specs.Step.{step}
 use Rattle.rules.specs.Runs.{left}
 use Rattle.bulletin_text.specs.Pieces.{parted}
 use Rattle.bulletin_text.specs.Heading.{heading_in}
 use Rattle.bulletin_text.specs.Rebuilt.{heading, rebuilt}
-use Rattle.bulletin_text.specs.declared.Heading.{Heading}
-use Rattle.bulletin_text.specs.declared.Heading.TheVariants.{Faulty, Timed}
+use Rattle.refusals.specs.declared.Refusal.{Refusal}
+use Rattle.synop_text.specs.declared.Characters.{Characters}
 use Rattle.bulletin.specs.Bulletin.{result}
 
 module _ (rank : ℕ) where
@@ -19,9 +19,9 @@ module _ (rank : ℕ) where
   report_calls head (gs ∷ []) = []
   report_calls head (gs ∷ hs ∷ more) = file (rebuilt head gs) rank ∷ report_calls head (hs ∷ more)
 
-  abbrev pub calls_under : Heading → List (List (List ℕ)) → List Call
-  calls_under (Faulty n) ps = []
-  calls_under (Timed a b c d e) ps = report_calls (heading a b c d e) ps
+  abbrev pub calls_under : Result Characters Refusal → List (List (List ℕ)) → List Call
+  calls_under (Err r) ps = []
+  calls_under (Ok x) ps = report_calls (heading x) ps
 
   unfoldable pub headed_calls : List (List (List ℕ)) → List Call
   headed_calls [] = []

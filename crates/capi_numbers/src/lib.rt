@@ -6,17 +6,20 @@ ghost use Rattle.capi_numbers.specs.Numbers.{number, filling_number};
 ghost use Rattle.engine_answers.specs.Replies.{reply};
 
 use bulletin::Tally;
-use engine_answers::{Cell, Reply};
-use laws::difference;
+use engine_answers::Cell;
+use refusals::Refusal;
 use vapour::LengthNeeded;
 
+// What a call returns that is not refused.
+pub const ACCEPTED: u32 = 0;
+
 // The number of an answer without a value.
-pub fn number_of(r: Reply) -> u32
-    ensures { result ≡ number (reply r) }
+pub fn number_of(answer: Result<(), Refusal>) -> u32
+    ensures { result ≡ number (reply answer) }
 {
-    match r {
-        Reply::Accepted => 0,
-        Reply::Refused(n) => n,
+    match answer {
+        Ok(()) => ACCEPTED,
+        Err(refusal) => u32::from(refusal),
     }
 }
 
@@ -24,11 +27,7 @@ pub fn number_of(r: Reply) -> u32
 pub fn cell_numbers(c: Cell) -> [i32; 3]
     ensures { result ≡ pos c.state ∷ pos c.flag ∷ c.value ∷ [] }
 {
-    [
-        difference(c.state as u32, 0),
-        difference(c.flag as u32, 0),
-        c.value,
-    ]
+    [i32::from(c.state), i32::from(c.flag), c.value]
 }
 
 // How many reports of a bulletin were accepted and refused.

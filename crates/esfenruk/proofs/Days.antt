@@ -11,7 +11,9 @@ use Rattle.daily.specs.Coded.{Says}
 use Rattle.daily.specs.Line as Line
 use Rattle.daily.specs.declared.DayLine.{DayLine}
 use Rattle.engine_answers.specs.Replies.{SaysDay}
-use Rattle.engine_answers.specs.declared.DayReply.TheVariants as reply
+use Rattle.refusals.specs.declared.Refusal.{Refusal}
+use Rattle.refusals.specs.Refusals as refusals
+use Rattle.std.specs.Prelude.{Ok, Err}
 use Rattle.rules.specs.Calls.{Answer}
 use Rattle.rules.proofs.Answers.{is_refused, IsDay, is_day}
 use Rattle.capi_arrays.specs.Arrays.{line_of, floats, numbers}
@@ -47,10 +49,10 @@ exact l d h =
     }
 
 module _ (a : Answer) (xs : List Float) (ys : List ℤ) where
-  pub returned_refused : (n : ℕ) → SaysDay (reply.Refused n) a → DayReturned a xs ys n xs ys
-  returned_refused n h = rw (is_refused n a h) (record { number = refl; floats = refl; exact = tt; numbers = refl })
+  pub returned_refused : (r : Refusal) → SaysDay (Err r) a → DayReturned a xs ys (refusals.number r) xs ys
+  returned_refused r h = rw (is_refused (refusals.number r) a h) (record { number = refl; floats = refl; exact = tt; numbers = refl })
 
-  pub returned_line : (l : DayLine) → SaysDay (reply.Line l) a → (x : List Float) (y : List ℤ) → x ≡ floats l → y ≡ numbers l → DayReturned a xs ys 0 x y
+  pub returned_line : (l : DayLine) → SaysDay (Ok l) a → (x : List Float) (y : List ℤ) → x ≡ floats l → y ≡ numbers l → DayReturned a xs ys 0 x y
   returned_line l h x y p q = rw i.answer (record { number = refl; floats = p ∙ ap floats same; exact = exact l i.line i.holds; numbers = q ∙ ap numbers same })
     where
       i : IsDay (Says l) a

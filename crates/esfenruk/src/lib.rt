@@ -13,10 +13,9 @@ ghost use Rattle.rules.specs.Calls as Calls;
 ghost use Rattle.rules.specs.Step.{step};
 ghost use Rattle.vapour.specs.Generator.{Fills};
 
-use bulletin::BulletinReply;
+use calendar::Date;
 use capi_arrays::{line_floats, line_numbers};
-use capi_numbers::{cell_numbers, count_numbers, filling_number, number_of};
-use engine_answers::{CellReply, DayReply};
+use capi_numbers::{ACCEPTED, cell_numbers, count_numbers, filling_number, number_of};
 
 // Opens a store for a date and stations, each with its climate row: 0 or 10.
 #[unsafe(no_mangle)]
@@ -30,7 +29,7 @@ pub extern "C" fn esfenruk_open(
 ) -> u32
     ensures { Returned (open_outcome store.old year month day stations.now rows.now) result store.new }
 {
-    number_of(engine::open(store, year, month, day, stations, rows))
+    number_of(engine::open(store, Date { year, month, day }, stations, rows))
 }
 
 // Files a report at a rank, 0 for an ordinary one, 1 to 24 for CCA to CCX: 0, or 9, then 13 for a rank above 24, 1 to 7, 13 for a rank below
@@ -75,14 +74,14 @@ pub extern "C" fn esfenruk_cell(
     slot: u32,
     out: &mut [i32; 3],
 ) -> u32
-    ensures r_value { result ≡ number (step (Calls.cell station element slot) store.now).answer }
-    ensures out_after { out.new ≡ cell_numbers (step (Calls.cell station element slot) store.now).answer out.old }
+    ensures number { result ≡ number (step (Calls.cell station element slot) store.now).answer }
+    ensures array { out.new ≡ cell_numbers (step (Calls.cell station element slot) store.now).answer out.old }
 {
     match engine::cell(store, station, element, slot) {
-        CellReply::Refused(n) => n,
-        CellReply::Cell(c) => {
+        Err(refusal) => u32::from(refusal),
+        Ok(c) => {
             *out = cell_numbers(c);
-            0
+            ACCEPTED
         }
     }
 }
@@ -98,11 +97,11 @@ pub extern "C" fn esfenruk_day(
     ensures { DayReturned (step (Calls.day station) store.now).answer means.old numbers.old result means.new numbers.new }
 {
     match engine::day(store, station) {
-        DayReply::Refused(n) => n,
-        DayReply::Line(l) => {
+        Err(refusal) => u32::from(refusal),
+        Ok(l) => {
             *means = line_floats(l);
             *numbers = line_numbers(l);
-            0
+            ACCEPTED
         }
     }
 }
@@ -119,10 +118,10 @@ pub extern "C" fn esfenruk_bulletin(
     ensures { Delivered (Bulletin.result store.old text.now rank) counts.old result store.new counts.new }
 {
     match bulletin::bulletin(store, text, rank) {
-        BulletinReply::Refused(n) => n,
-        BulletinReply::Counted(t) => {
+        Err(refusal) => u32::from(refusal),
+        Ok(t) => {
             *counts = count_numbers(t);
-            0
+            ACCEPTED
         }
     }
 }
