@@ -10,7 +10,7 @@ use Rattle.daily.specs.declared.DayLine.{DayLine}
 use Rattle.engine_answers.specs.Replies.{SaysDay}
 use Rattle.refusals.specs.Refusals.{number}
 use Rattle.refusals.specs.declared.Refusal.{Refusal}
-use Rattle.rules.specs.Calls.{Answer, refused, a_day, day}
+use Rattle.rules.specs.Calls.{a_day, day}
 use Rattle.rules.specs.Step.{step}
 use Rattle.rules.proofs.Answers.{is_refused, IsDay, is_day}
 use Rattle.dayline_print.specs.Printed.{day_text}
