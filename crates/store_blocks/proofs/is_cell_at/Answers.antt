@@ -4,4 +4,4 @@ use Rattle.store_blocks.proofs.is_cell_at.Goals as goal
 
 pub returns : goal.returns
 unfolding decode_cell
-returns c = rw (← c.word_at.ensures) c.is_cell.ensures
+returns c = rw (← c.value_at.ensures) c.is_cell.ensures
