@@ -1,6 +1,6 @@
 -- Lists that calls of one closure made, each call leaving the closure as it was.
---     mapped      an array's `map`
---     tabled      `std::array::from_fn`
+--     mapped, mapped_table      an array's `map`
+--     tabled                    `std::array::from_fn`
 -- Assumes nothing.
 use mathlib.Core.Path.{◌≡◌, sym, ◌∙◌, subst, ap}
 use mathlib.Core.Logic.{⊎_elim}
@@ -29,6 +29,10 @@ module _ {F A B : Type 0} (g : Mut F (A × Unit {0}) B) (f : F) (h : A → B)
   mapped n long m =
       ext_get_or e ys (map h xs) (m.long ∙ sym (length-map xs h ∙ long))
       (λ k l. let b : k < length xs = omega (arith, long, m.long) in mapped_at n 0 f (λ i. f) m.each k zero-le (omega arith) ∙ sym (map_at h xs k d e b))
+
+  -- the same as a table
+  pub mapped_table : (n : ℕ) → length xs ≡ n → IsMapOf g f xs ys n → ys ≡ table n (λ k. h (get_or xs k d))
+  mapped_table n long m = is_table n (λ k. h (get_or xs k d)) ys e m.long (λ k b. mapped_at n 0 f (λ i. f) m.each k zero-le (omega arith))
 
 module _ {F B : Type 0} (g : Mut F (ℕ × Unit {0}) B) (f : F) (h : ℕ → B)
     (calls : (k : ℕ) (r : B) (q : F) → Called g f (k, tt) r q → (r ≡ h k) × (q ≡ f)) (ys : List B) (e : B) where

@@ -2,12 +2,11 @@
 -- Assumes nothing.
 use Rattle.std.specs.Prelude.{Bool, not, ◌&&◌, List, ℕ, eqb, ℤ, pos, get_or}
 use Rattle.std.specs.Int.Signed.{le_z}
+use Rattle.quality.specs.declared.column.Cell as code
 
 -- States: 0 missing, 1 read, 2 corrected, 3 filled, 4 a humidity. Flags: 0 none, 1 range, 2 internal, 3 time, 4 suspect.
-pub record Cell : Type 0 where
-  pub state : ℕ
-  pub flag : ℕ
-  pub value : ℤ
+abbrev pub Cell : Type 0
+Cell = code.Cell
 
 -- "Missing" means that there is no value: state 0
 abbrev pub missing : Cell → Bool

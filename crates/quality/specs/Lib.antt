@@ -5,4 +5,3 @@ pub mod Limits
 pub mod Steps
 pub mod Settled
 pub mod Valid
-pub mod Coded

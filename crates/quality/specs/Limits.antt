@@ -1,12 +1,23 @@
 -- "Limits min2, min1, max1, max2", by element, climate row and season (document 01, "Settling a station", step 1).
 -- Assumes nothing.
-use Rattle.std.specs.Prelude.{Bool, cond, ◌&&◌, [], ◌∷◌, ℕ, eqb, leb, ℤ, pos, neg_ℤ, get_or}
+use Rattle.std.specs.Prelude.{Bool, true, false, cond, ◌&&◌, [], ◌∷◌, ℕ, eqb, leb, ℤ, pos, neg_ℤ, get_or}
+use Rattle.quality.specs.declared.limits.Limits as code
+use Rattle.quality.specs.declared.limits.Climate.{Climate}
+use Rattle.quality.specs.declared.limits.Climate.TheVariants.{Lowland, Hill}
+use Rattle.quality.specs.declared.limits.Season.{Season}
+use Rattle.quality.specs.declared.limits.Season.TheVariants.{Cold, Warm}
 
-pub record Limits : Type 0 where
-  pub min2 : ℤ
-  pub min1 : ℤ
-  pub max1 : ℤ
-  pub max2 : ℤ
+abbrev pub Limits : Type 0
+Limits = code.Limits
+
+-- "climate row (0 lowland, 1 hill)"
+abbrev pub row_of : Climate → ℕ
+row_of Lowland = 0
+row_of Hill = 1
+
+abbrev pub is_warm : Season → Bool
+is_warm Cold = false
+is_warm Warm = true
 
 -- "Warm is month 4 to 9 of D."
 abbrev pub warm : ℕ → Bool

@@ -1,87 +1,56 @@
-// A column: one element's nine cells, slot by slot, passed by value through the steps.
-ghost use Rattle.std.specs.Prelude.{◌≡◌, ◌<◌, set};
-ghost use Rattle.quality.specs.Cell.{missing, is_humidity, slot, discarded, flagged};
-ghost use Rattle.quality.specs.Coded.{cell, cells};
+// A cell, and a column: one element's nine cells, slot by slot.
+ghost use Rattle.std.specs.Prelude.{◌≡◌};
+ghost use Rattle.quality.specs.Cell.{missing, is_humidity, discarded, flagged};
 ghost use Rattle.quality.specs.Steps.{passed_over};
 
-// A cell: its value v is kept as v + 32768.
-#[derive(Clone, Copy)]
-pub struct OffsetCell {
+// States: 0 missing, 1 read, 2 corrected, 3 filled, 4 a humidity. Flags: 0 none, 1 range, 2 internal, 3 time, 4 suspect. They are numbers
+// and no enums, since the store and C keep each as a byte, and any byte may lie in a store that is read.
+#[derive(Clone, Copy, Debug, PartialEq, Eq)]
+pub struct Cell {
     pub state: u8,
     pub flag: u8,
-    pub value: u16,
+    pub value: i16,
 }
 
-#[derive(Clone, Copy)]
-pub struct Column {
-    pub values: [u16; 9],
-    pub states: [u8; 9],
-    pub flags: [u8; 9],
-}
+pub type Column = [Cell; 9];
 
-// The cell at slot k.
-pub fn at(c: Column, k: usize) -> OffsetCell
-    requires { k < 9 }
-    ensures { cell result ≡ slot (cells c) k }
-{
-    OffsetCell {
-        state: c.states[k],
-        flag: c.flags[k],
-        value: c.values[k],
+impl Cell {
+    // Missing, with the flag.
+    pub fn discarded(flag: u8) -> Cell
+        ensures { result ≡ discarded flag }
+    {
+        Cell {
+            state: 0,
+            flag,
+            value: 0,
+        }
     }
-}
 
-// The column with the cell d at slot k.
-pub fn put(c: Column, k: usize, d: OffsetCell) -> Column
-    requires { k < 9 }
-    ensures { cells result ≡ set (cells c) k (cell d) }
-{
-    let mut r = c;
-    r.values[k] = d.value;
-    r.states[k] = d.state;
-    r.flags[k] = d.flag;
-    r
-}
-
-// Whether the cell has no value.
-pub fn is_missing(d: OffsetCell) -> bool
-    ensures { result ≡ missing (cell d) }
-{
-    d.state == 0
-}
-
-// Whether the cell is a humidity.
-pub fn is_humidity(d: OffsetCell) -> bool
-    ensures { result ≡ is_humidity (cell d) }
-{
-    d.state == 4
-}
-
-// Whether the steps pass over the cell.
-pub fn passed_over(d: OffsetCell) -> bool
-    ensures { result ≡ passed_over (cell d) }
-{
-    is_missing(d) | is_humidity(d)
-}
-
-// Missing, with the flag.
-pub fn discard(flag: u8) -> OffsetCell
-    ensures { cell result ≡ discarded flag }
-{
-    OffsetCell {
-        state: 0,
-        flag: flag,
-        value: 32768,
+    // The same cell with another flag.
+    pub fn with_flag(self, flag: u8) -> Cell
+        ensures { result ≡ flagged flag self }
+    {
+        Cell { flag, ..self }
     }
-}
 
-// The same cell with another flag.
-pub fn with_flag(d: OffsetCell, flag: u8) -> OffsetCell
-    ensures { cell result ≡ flagged flag (cell d) }
-{
-    OffsetCell {
-        state: d.state,
-        flag: flag,
-        value: d.value,
+    // Whether the cell has no value.
+    pub fn is_missing(self) -> bool
+        ensures { result ≡ missing self }
+    {
+        self.state == 0
+    }
+
+    // Whether the cell is a humidity.
+    pub fn is_humidity(self) -> bool
+        ensures { result ≡ is_humidity self }
+    {
+        self.state == 4
+    }
+
+    // Whether the steps pass over the cell.
+    pub fn passed_over(self) -> bool
+        ensures { result ≡ passed_over self }
+    {
+        self.is_missing() | self.is_humidity()
     }
 }

@@ -1,19 +1,34 @@
-// The limits of the range step, and the season that they go by. Their table is the crate `quality_limits`.
+// The limits of the range step, and what they go by. Their table is the crate `quality_limits`.
 ghost use Rattle.std.specs.Prelude.{◌≡◌};
-ghost use Rattle.quality.specs.Limits.{warm};
+ghost use Rattle.quality.specs.Limits.{is_warm, warm};
 
-// Limits in offset binary, v + 32768 each.
-#[derive(Clone, Copy)]
-pub struct OffsetLimits {
-    pub min2: u16,
-    pub min1: u16,
-    pub max1: u16,
-    pub max2: u16,
+#[derive(Clone, Copy, Debug, PartialEq, Eq)]
+pub struct Limits {
+    pub min2: i16,
+    pub min1: i16,
+    pub max1: i16,
+    pub max2: i16,
+}
+
+// A station's climate row.
+#[derive(Clone, Copy, Debug, PartialEq, Eq)]
+pub enum Climate {
+    Lowland,
+    Hill,
+}
+
+#[derive(Clone, Copy, Debug, PartialEq, Eq)]
+pub enum Season {
+    Cold,
+    Warm,
 }
 
 // Warm is month 4 to 9.
-pub fn is_warm(month: u32) -> bool
-    ensures { result ≡ warm month }
+pub fn season_of(month: u32) -> Season
+    ensures { is_warm result ≡ warm month }
 {
-    (4 <= month) & (month <= 9)
+    if (4 <= month) & (month <= 9) {
+        return Season::Warm;
+    }
+    Season::Cold
 }

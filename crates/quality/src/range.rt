@@ -1,27 +1,25 @@
 // The range step.
 ghost use Rattle.std.specs.Prelude.{◌≡◌};
-ghost use Rattle.quality.specs.Coded.{cell, limits_of};
 ghost use Rattle.quality.specs.Steps.{range_cell};
 
-use crate::column::{OffsetCell, discard, passed_over, with_flag};
-use crate::limits::OffsetLimits;
-use crate::value::below;
+use crate::column::Cell;
+use crate::limits::Limits;
 
 // One cell against the limits.
-pub fn range_cell(l: OffsetLimits, d: OffsetCell) -> OffsetCell
-    ensures { cell result ≡ range_cell (limits_of l) (cell d) }
+#[tactic(auto, unfolding(crate::specs::Steps::range_cell))]
+pub fn range_cell(l: Limits, d: Cell) -> Cell
+    ensures { result ≡ range_cell l d }
 {
-    let v = d.value;
-    if passed_over(d) {
+    if d.passed_over() {
         return d;
     }
-    let out = below(v, l.min2) | below(l.max2, v);
+    let out = (d.value < l.min2) | (l.max2 < d.value);
     if out {
-        return discard(1);
+        return Cell::discarded(1);
     }
-    let doubtful = below(v, l.min1) | below(l.max1, v);
+    let doubtful = (d.value < l.min1) | (l.max1 < d.value);
     if doubtful {
-        return with_flag(d, 4);
+        return d.with_flag(4);
     }
     d
 }
