@@ -1,6 +1,6 @@
 // The limits of the range step, and what they go by. Their table is the crate `quality_limits`.
-ghost use Rattle.std.specs.Prelude.{◌≡◌};
-ghost use Rattle.quality.specs.Limits.{is_warm, warm};
+ghost use Rattle.std.specs.Prelude.{◌≡◌, ◌<◌};
+ghost use Rattle.quality.specs.Limits.{row_of, is_warm, warm};
 
 #[derive(Clone, Copy, Debug, PartialEq, Eq)]
 pub struct Limits {
@@ -15,6 +15,17 @@ pub struct Limits {
 pub enum Climate {
     Lowland,
     Hill,
+}
+
+// A climate row as the store keeps it: 0 lowland, 1 hill.
+pub fn climate_of(row: u16) -> Climate
+    requires { row < 2 }
+    ensures { row_of result ≡ row }
+{
+    match row {
+        0 => Climate::Lowland,
+        _ => Climate::Hill,
+    }
 }
 
 #[derive(Clone, Copy, Debug, PartialEq, Eq)]
