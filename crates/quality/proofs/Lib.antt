@@ -1,4 +1,5 @@
 -- Laws of this crate's definitions that its proofs, and those of the crates above, cite.
+pub mod Columns
 pub mod Between
 pub mod Validity
 pub mod Humidity

@@ -5,3 +5,4 @@ pub mod Limits
 pub mod Steps
 pub mod Settled
 pub mod Valid
+pub mod Coded

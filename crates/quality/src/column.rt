@@ -1,6 +1,7 @@
-// A cell, and a column: one element's nine cells, slot by slot.
-ghost use Rattle.std.specs.Prelude.{◌≡◌};
-ghost use Rattle.quality.specs.Cell.{missing, is_humidity, discarded, flagged};
+// A cell, and a column: one element's nine cells, slot by slot, passed by value through the steps.
+ghost use Rattle.std.specs.Prelude.{◌≡◌, ◌<◌};
+ghost use Rattle.quality.specs.Cell.{missing, is_humidity, slot, discarded, flagged};
+ghost use Rattle.quality.specs.Coded.{cells};
 ghost use Rattle.quality.specs.Steps.{passed_over};
 
 // States: 0 missing, 1 read, 2 corrected, 3 filled, 4 a humidity. Flags: 0 none, 1 range, 2 internal, 3 time, 4 suspect. They are numbers
@@ -12,7 +13,38 @@ pub struct Cell {
     pub value: i16,
 }
 
-pub type Column = [Cell; 9];
+// Three arrays and no array of cells: the form that document 01 names for the columns that go through the steps.
+#[derive(Clone, Copy, Debug, PartialEq, Eq)]
+pub struct Column {
+    pub values: [i16; 9],
+    pub states: [u8; 9],
+    pub flags: [u8; 9],
+}
+
+impl Column {
+    // The column of nine cells.
+    pub fn of(nine: [Cell; 9]) -> Column
+        ensures { cells result ≡ nine }
+    {
+        Column {
+            values: nine.map(|d| d.value),
+            states: nine.map(|d| d.state),
+            flags: nine.map(|d| d.flag),
+        }
+    }
+
+    // The cell at slot k.
+    pub fn at(self, k: usize) -> Cell
+        requires { k < 9 }
+        ensures { result ≡ slot (cells self) k }
+    {
+        Cell {
+            state: self.states[k],
+            flag: self.flags[k],
+            value: self.values[k],
+        }
+    }
+}
 
 impl Cell {
     // Missing, with the flag.
