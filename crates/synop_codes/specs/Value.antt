@@ -1,7 +1,6 @@
 -- A value of an element, in the paper's terms, and what the code's answer stands for.
 -- Assumes nothing.
 use Rattle.std.specs.Prelude.{◌≡◌, ℕ, ◌≤◌, ℤ, nat_abs, Option, None, Some}
-use Rattle.laws.specs.Offset.{value}
 use Rattle.synop_codes.specs.declared.Moisture.{Moisture}
 use Rattle.synop_codes.specs.declared.Moisture.TheVariants.{DewPoint, Humidity}
 
@@ -12,15 +11,15 @@ pub data Value : Type 0 where
   read : ℤ → Value
   humidity : ℕ → Value
 
--- what the code answers, in offset binary, as a value
-abbrev pub meaning : Option ℕ → Value
+-- what the code answers, as a value
+abbrev pub meaning : Option ℤ → Value
 meaning None = missing
-meaning (Some n) = read (value n)
+meaning (Some z) = read z
 
 -- S-2: "Reading group 2 now gives a dew point, a humidity in percent (001 to 100) or nothing"
 abbrev pub moisture : Option Moisture → Value
 moisture None = missing
-moisture (Some (DewPoint n)) = read (value n)
+moisture (Some (DewPoint z)) = read z
 moisture (Some (Humidity u)) = humidity u
 
 -- D's number among the elements "T, D, P, W, C, V, R, X, M"

@@ -2,45 +2,28 @@
 // give the number is the matter of `synop_figures`.
 #![tactic(auto)]
 
-ghost use Rattle.std.specs.Prelude.{◌≡◌, ◌<◌, pos, neg_ℤ};
-ghost use Rattle.laws.specs.Offset.{value};
+ghost use Rattle.std.specs.Prelude.{◌≡◌, ◌<◌};
 ghost use Rattle.synop_codes.specs.Value.{meaning, moisture};
 ghost use Rattle.synop_codes.specs.Tables as tables;
 
-// What group 2 of section 1 gives, where it gives anything: a dew point, in offset binary, or a humidity in percent (1 to 100).
+// What group 2 of section 1 gives, where it gives anything: a dew point or a humidity in percent (1 to 100).
 #[derive(Clone, Copy, Debug, PartialEq, Eq)]
 pub enum Moisture {
-    DewPoint(u16),
+    DewPoint(i16),
     Humidity(u8),
 }
 
-// ---- values of the elements: a number v of the element's unit, kept in offset binary as v + 32768; `None` where it is missing
-
-// A number from 0 up, as a value.
-fn above(n: u32) -> u16
-    requires { n < 32768 }
-    ensures { value result ≡ pos n }
-{
-    (32768 + n) as u16
-}
-
-// The negative of n, as a value.
-fn below(n: u32) -> u16
-    requires { n < 32768 }
-    ensures { value result ≡ neg_ℤ (pos n) }
-{
-    (32768 - n) as u16
-}
+// ---- values of the elements, in the element's unit; `None` where one is missing
 
 // T, D, X and M, tenths of °C, from the sign's character and the number.
 #[tactic(auto, unfolding(crate::specs::Tables::temperature_of))]
-pub fn temperature_of(sign: u8, n: u32) -> Option<u16>
+pub fn temperature_of(sign: u8, n: u32) -> Option<i16>
     requires { n < 1000 }
     ensures { meaning result ≡ tables.temperature_of sign n }
 {
     match sign {
-        b'0' => Some(above(n)),
-        b'1' => Some(below(n)),
+        b'0' => Some(n as i16),
+        b'1' => Some(-(n as i16)),
         _ => None,
     }
 }
@@ -71,52 +54,52 @@ pub fn moisture_of(sign: u8, n: u32) -> Option<Moisture>
 
 // P, tenths of hPa, from the first character of PPPP and its number.
 #[tactic(auto, unfolding(crate::specs::Tables::pressure_of))]
-pub fn pressure_of(first: u8, n: u32) -> Option<u16>
+pub fn pressure_of(first: u8, n: u32) -> Option<i16>
     requires { n < 10000 }
     ensures { meaning result ≡ tables.pressure_of first n }
 {
     match first {
-        b'0' => Some(above(10000 + n)),
-        b'9' => Some(above(n)),
+        b'0' => Some((10000 + n) as i16),
+        b'9' => Some(n as i16),
         _ => None,
     }
 }
 
 // W, tenths of m/s, from iw and the number that ff or fff gives.
 #[tactic(auto, unfolding(crate::specs::Tables::wind_of))]
-pub fn wind_of(iw: u8, k: u32) -> Option<u16>
+pub fn wind_of(iw: u8, k: u32) -> Option<i16>
     requires { k < 1000 }
     ensures { meaning result ≡ tables.wind_of iw k }
 {
     match iw {
-        b'0' | b'1' => Some(above(10 * k)),
-        b'3' | b'4' => Some(above((463 * k + 45) / 90)),
+        b'0' | b'1' => Some((10 * k) as i16),
+        b'3' | b'4' => Some(((463 * k + 45) / 90) as i16),
         _ => None,
     }
 }
 
 // C, eighths, from N.
 #[tactic(auto, unfolding(crate::specs::Tables::cloud_of))]
-pub fn cloud_of(n: u32) -> Option<u16>
+pub fn cloud_of(n: u32) -> Option<i16>
     ensures { meaning result ≡ tables.cloud_of n }
 {
     match n {
-        0..=8 => Some(above(n)),
+        0..=8 => Some(n as i16),
         _ => None,
     }
 }
 
-// V, hundreds of metres, from VV.
+// V, hundreds of metres, from VV. A match over ranges of VV is the form that document 01 names for this place.
 #[tactic(auto, unfolding(crate::specs::Tables::visibility_of))]
-pub fn visibility_of(vv: u32) -> Option<u16>
+pub fn visibility_of(vv: u32) -> Option<i16>
     ensures { meaning result ≡ tables.visibility_of vv }
 {
     match vv {
-        0..=50 => Some(above(vv)),
+        0..=50 => Some(vv as i16),
         51..=55 => None,
-        56..=80 => Some(above(10 * (vv - 50))),
-        81..=88 => Some(above(300 + 50 * (vv - 80))),
-        89 => Some(above(700)),
+        56..=80 => Some((10 * (vv - 50)) as i16),
+        81..=88 => Some((300 + 50 * (vv - 80)) as i16),
+        89 => Some(700),
         // 90 to 99
         _ => None,
     }
@@ -124,16 +107,16 @@ pub fn visibility_of(vv: u32) -> Option<u16>
 
 // R, tenths of mm, from RRR.
 #[tactic(auto, unfolding(crate::specs::Tables::rain_of))]
-pub fn rain_of(rrr: u32) -> Option<u16>
+pub fn rain_of(rrr: u32) -> Option<i16>
     requires { rrr < 1000 }
     ensures { meaning result ≡ tables.rain_of rrr }
 {
     match rrr {
         0 => None,
-        1..=989 => Some(above(10 * rrr)),
-        990 => Some(above(0)),
+        1..=989 => Some((10 * rrr) as i16),
+        990 => Some(0),
         // 991 to 999
-        _ => Some(above(rrr - 990)),
+        _ => Some((rrr - 990) as i16),
     }
 }
 

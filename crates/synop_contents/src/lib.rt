@@ -21,6 +21,7 @@ pub struct Identification {
 
 // What a report gives for the head of its slot: iR, whether a group 6 was sent, tR and dd.
 // What was not sent stays a number, iR 5, tR 0 and dd 100: these are the store's and the paper's, with a meaning and a place of their own.
+// `rain_sent` is no `Option` around tR, which would be taken apart at once: S-5 asks whether it was sent alone, the store keeps tR alone.
 #[derive(Clone, Copy)]
 pub struct Indicators {
     pub rain_indicator: u8,
@@ -32,15 +33,15 @@ pub struct Indicators {
 // The nine elements, in the order of the store; the second is D, or a humidity in its place.
 #[derive(Clone, Copy)]
 pub struct Values {
-    pub temperature: Option<u16>,
+    pub temperature: Option<i16>,
     pub moisture: Option<Moisture>,
-    pub pressure: Option<u16>,
-    pub wind: Option<u16>,
-    pub cloud: Option<u16>,
-    pub visibility: Option<u16>,
-    pub rain: Option<u16>,
-    pub maximum: Option<u16>,
-    pub minimum: Option<u16>,
+    pub pressure: Option<i16>,
+    pub wind: Option<i16>,
+    pub cloud: Option<i16>,
+    pub visibility: Option<i16>,
+    pub rain: Option<i16>,
+    pub maximum: Option<i16>,
+    pub minimum: Option<i16>,
 }
 
 // A number of two digits.
@@ -92,7 +93,7 @@ fn wind_of(
     time: Option<Characters>,
     wind: Option<Characters>,
     gale: Option<Characters>,
-) -> Option<u16>
+) -> Option<i16>
     ensures { meaning result ≡ contents.wind_of time wind gale }
 {
     if gale.is_some() {

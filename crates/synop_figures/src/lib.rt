@@ -53,7 +53,7 @@ pub fn four(a: u8, b: u8, c: u8, d: u8) -> Option<u32>
 
 // T, X and M, from 1sTTT or 2sTTT: tenths of °C.
 #[tactic(auto, using(crate::proofs::Numbers::three_some), unfolding(crate::specs::OneGroup::temperature, crate::specs::Elements::temperature))]
-pub fn temperature(part: Option<Characters>) -> Option<u16>
+pub fn temperature(part: Option<Characters>) -> Option<i16>
     ensures { meaning result ≡ group.temperature part }
 {
     let x = part?;
@@ -74,7 +74,7 @@ pub fn moisture(part: Option<Characters>) -> Option<Moisture>
 
 // P, from 4PPPP: tenths of hPa.
 #[tactic(auto, using(crate::proofs::Numbers::four_some), unfolding(crate::specs::OneGroup::pressure, crate::specs::Elements::pressure))]
-pub fn pressure(part: Option<Characters>) -> Option<u16>
+pub fn pressure(part: Option<Characters>) -> Option<i16>
     ensures { meaning result ≡ group.pressure part }
 {
     let x = part?;
@@ -84,7 +84,7 @@ pub fn pressure(part: Option<Characters>) -> Option<u16>
 
 // W, from iw of YYGGiw and ff of Nddff: tenths of m/s.
 #[tactic(auto, using(crate::proofs::Numbers::two_some), unfolding(crate::specs::OneGroup::wind_ff, crate::specs::Elements::wind_ff))]
-pub fn wind_ff(time: Option<Characters>, wind: Option<Characters>) -> Option<u16>
+pub fn wind_ff(time: Option<Characters>, wind: Option<Characters>) -> Option<i16>
     ensures { meaning result ≡ group.wind_ff time wind }
 {
     let iw = time?.e;
@@ -95,7 +95,7 @@ pub fn wind_ff(time: Option<Characters>, wind: Option<Characters>) -> Option<u16
 
 // W, from iw and fff of 00fff.
 #[tactic(auto, using(crate::proofs::Numbers::three_some), unfolding(crate::specs::OneGroup::wind_fff, crate::specs::Elements::wind_fff))]
-pub fn wind_fff(time: Option<Characters>, gale: Option<Characters>) -> Option<u16>
+pub fn wind_fff(time: Option<Characters>, gale: Option<Characters>) -> Option<i16>
     ensures { meaning result ≡ group.wind_fff time gale }
 {
     let iw = time?.e;
@@ -106,7 +106,7 @@ pub fn wind_fff(time: Option<Characters>, gale: Option<Characters>) -> Option<u1
 
 // C, from N of Nddff: eighths.
 #[tactic(auto, unfolding(crate::specs::OneGroup::cloud, crate::specs::Elements::cloud))]
-pub fn cloud(wind: Option<Characters>) -> Option<u16>
+pub fn cloud(wind: Option<Characters>) -> Option<i16>
     ensures { meaning result ≡ group.cloud wind }
 {
     let n = digit(wind?.a)?;
@@ -115,7 +115,7 @@ pub fn cloud(wind: Option<Characters>) -> Option<u16>
 
 // V, from VV of iRixhVV: hundreds of metres.
 #[tactic(auto, unfolding(crate::specs::OneGroup::visibility, crate::specs::Elements::visibility))]
-pub fn visibility(part: Option<Characters>) -> Option<u16>
+pub fn visibility(part: Option<Characters>) -> Option<i16>
     ensures { meaning result ≡ group.visibility part }
 {
     let x = part?;
@@ -125,7 +125,7 @@ pub fn visibility(part: Option<Characters>) -> Option<u16>
 
 // R, from 6RRRtR: tenths of mm.
 #[tactic(auto, using(crate::proofs::Numbers::three_some), unfolding(crate::specs::OneGroup::rain, crate::specs::Elements::rain))]
-pub fn rain(part: Option<Characters>) -> Option<u16>
+pub fn rain(part: Option<Characters>) -> Option<i16>
     ensures { meaning result ≡ group.rain part }
 {
     let x = part?;
@@ -147,10 +147,10 @@ fn duration_of(t: u8) -> u8
 pub fn rain_duration(part: Option<Characters>) -> u8
     ensures { result ≡ group.rain_duration part }
 {
-    match part {
-        Some(x) if rain(part).is_some() => duration_of(x.e),
-        _ => 0,
+    if rain(part).is_none() {
+        return 0;
     }
+    part.map_or(0, |x| duration_of(x.e))
 }
 
 // iR, from iRixhVV: 0 to 4, else 5.

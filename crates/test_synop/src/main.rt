@@ -33,22 +33,17 @@ fn head(rt: &impl Print, h: Indicators) -> Result<()> {
     number(rt, h.wind_direction)
 }
 
-// A value from its offset binary.
-fn read(rt: &impl Print, n: u16) -> Result<()> {
-    print!(rt; " {}", n as i32 - 32768)
-}
-
-fn value(rt: &impl Print, v: Option<u16>) -> Result<()> {
+fn value(rt: &impl Print, v: Option<i16>) -> Result<()> {
     match v {
         None => missing(rt),
-        Some(n) => read(rt, n),
+        Some(n) => print!(rt; " {n}"),
     }
 }
 
 fn moisture(rt: &impl Print, m: Option<Moisture>) -> Result<()> {
     match m {
         None => missing(rt),
-        Some(Moisture::DewPoint(n)) => read(rt, n),
+        Some(Moisture::DewPoint(n)) => print!(rt; " {n}"),
         Some(Moisture::Humidity(u)) => print!(rt; " {u}%"),
     }
 }
