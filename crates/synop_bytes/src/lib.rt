@@ -1,12 +1,12 @@
 // Document 01's checks 1 and 2, of the bytes of a text.
 #![tactic(auto)]
 
-ghost use Rattle.std.specs.Prelude.{◌≡◌, ◌==◌};
-ghost use Rattle.std.specs.List.{position};
+ghost use Rattle.std.specs.Prelude.{◌≡◌};
 ghost use Rattle.refusals.specs.Refusals.{number_or_zero};
 ghost use Rattle.synop_bytes.specs.Bytes as bytes;
 
 use refusals::Refusal;
+use text_bytes::find;
 
 // By `&` and `|`, not by a match: without branches the loop over the bytes takes several at a time.
 #[tactic(auto, unfolding(crate::specs::Bytes::is_known))]
@@ -19,19 +19,12 @@ fn is_known(b: u8) -> bool
     digit | letter | blank | (b == b'/') | (b == b'=')
 }
 
-// Where the first `=` stands.
-fn first_end(s: &[u8]) -> Option<usize>
-    ensures { result ≡ position (λ b. b == 61) s.now }
-{
-    s.iter().position(|&b| b == b'=')
-}
-
 // Whether the text ends with its first `=`.
 #[tactic(auto, using(crate::proofs::Reading::ended_some, crate::proofs::Reading::ended_none))]
 fn is_ended(s: &[u8]) -> bool
     ensures { result ≡ bytes.ended s.now }
 {
-    match first_end(s) {
+    match find(s, b'=') {
         Some(end) => end + 1 == s.len(),
         None => false,
     }

@@ -1,7 +1,7 @@
 // Document 01's checks 3 and 4 of one group after a place. Checks 1 and 2 are the matter of `synop_bytes`, 5 of `synop_order`.
 #![tactic(auto)]
 
-ghost use Rattle.std.specs.Prelude.{◌≡◌};
+ghost use Rattle.std.specs.Prelude.{true, false, ◌≡◌};
 ghost use Rattle.synop_checks.specs.Ranges as ranges;
 ghost use Rattle.synop_checks.specs.Shapes as shapes;
 
@@ -33,15 +33,18 @@ fn is_digits(g: Group) -> bool
     }
 }
 
-// Any of the shapes; `NIL` only where it may stand.
-fn is_group(nil: bool, g: Group) -> bool
-    ensures { result ≡ shapes.is_group nil g }
+// Any of the shapes.
+fn is_group(g: Group) -> bool
+    ensures { result ≡ shapes.is_group true g }
 {
-    match g {
-        Group::Other => false,
-        Group::Nil => nil,
-        Group::Aaxx | Group::Section(_) | Group::Five(_) => true,
-    }
+    !matches!(g, Group::Other)
+}
+
+// Any of the shapes but `NIL`.
+fn is_group_but_nil(g: Group) -> bool
+    ensures { result ≡ shapes.is_group false g }
+{
+    !matches!(g, Group::Other | Group::Nil)
 }
 
 // Whether a group after this place has its shape.
@@ -51,9 +54,9 @@ pub fn shaped(p: Place, g: Group) -> bool
     match p {
         Place::Start => is_aaxx(g),
         Place::Letters | Place::Time => is_digits(g),
-        Place::Station => is_group(true, g),
+        Place::Station => is_group(g),
         Place::Nothing => false,
-        _ => is_group(false, g),
+        _ => is_group_but_nil(g),
     }
 }
 
@@ -68,7 +71,7 @@ const NO_STATION: Characters = Characters {
     e: b'0',
 };
 
-// YY.
+// YY. Not one function with `is_hour`: each is one line of the paper's, and one function of both would have the bounds passed.
 #[tactic(auto, unfolding(crate::specs::Ranges::is_day))]
 fn is_day(a: u8, b: u8) -> bool
     ensures { result ≡ ranges.is_day a b }
@@ -84,7 +87,7 @@ fn is_hour(a: u8, b: u8) -> bool
     matches!(two(a, b), Some(0..=23))
 }
 
-// iw.
+// iw. Like `synop_text::parts` in its form alone: these are other characters.
 #[tactic(auto, unfolding(crate::specs::Ranges::is_unit))]
 fn is_unit(iw: u8) -> bool
     ensures { result ≡ ranges.is_unit iw }
