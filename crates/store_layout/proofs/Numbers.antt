@@ -1,8 +1,7 @@
--- Numbers as bytes: big-endian words and longs, and the two forms of a signed value.
+-- Numbers as bytes: big-endian words and longs, and signed values in two's complement.
 --     word_of_bytes, long_of_bytes      what is read from a number's bytes is the number
 --     bytes_word, bytes_long      the bytes of what is read are the bytes
 --     signed_unsigned, unsigned_signed      two's complement there and back
---     value_signed, unsigned_value          two's complement and offset binary
 -- Assumes nothing.
 use mathlib.Core.Path.{◌≡◌, sym, ◌∙◌, ap}
 use mathlib.Core.Bool.{not, ◌&&◌}
@@ -14,9 +13,8 @@ use borrow.Author.Tests.{lt-ltb, le-ltb, le-leb, lt-leb, ne_eqb}
 use mathlib.Core.Logic.{◌⊎◌, inl, inr}
 use lib.Dec.{leb, eqb}
 use lib.IntN.{ℤ, pos, negsuc, nat_abs}
-use Rattle.laws.specs.Offset.{value}
 use Rattle.laws.proofs.Bools.{cond_true, cond_false, and_false_right}
-use Rattle.laws.proofs.Offset.{side, sub_below, sub_above}
+use Rattle.laws.proofs.Offset.{side}
 use Rattle.quality.specs.Cell.{is_percent}
 use Rattle.store_layout.specs.Layout.{word, long, word_bytes, long_bytes, signed, unsigned}
 use Rattle.store_layout.specs.Framed.{Bytes}
@@ -102,18 +100,3 @@ percent_test w h = go (side w 32768)
     go : (w < 32768) ⊎ (32768 ≤ w) → is_percent (signed w) ≡ (leb 1 w && leb w 100)
     go (inl l) = rw (signed_low w l)
     go (inr l) = rw (signed_high w l) (sym (and_false_right (leb 1 w) (leb w 100) (lt-leb w 100 (omega arith))))
-
--- ---- two's complement and offset binary: the same value, the top bit turned
-pub value_signed : (w : ℕ) → w < 65536 → value ((w + 32768) % 65536) ≡ signed w
-value_signed w h = go (side w 32768)
-  where
-    go : (w < 32768) ⊎ (32768 ≤ w) → value ((w + 32768) % 65536) ≡ signed w
-    go (inl l) = sub_above ((w + 32768) % 65536) 32768 (omega arith) ∙ ap pos (omega arith) ∙ sym (signed_low w l)
-    go (inr l) = sub_below ((w + 32768) % 65536) 32768 (omega arith) ∙ ap negsuc (omega arith) ∙ sym (signed_high w l)
-
-pub unsigned_value : (x : ℕ) → x < 65536 → unsigned (value x) ≡ (x + 32768) % 65536
-unsigned_value x h = go (side x 32768)
-  where
-    go : (x < 32768) ⊎ (32768 ≤ x) → unsigned (value x) ≡ (x + 32768) % 65536
-    go (inl l) = ap unsigned (sub_below x 32768 l) ∙ omega arith
-    go (inr l) = ap unsigned (sub_above x 32768 l) ∙ omega arith
