@@ -19,7 +19,7 @@ pub fn put_word(store: &mut [u8], at: usize, word: u16)
     put_bytes(store, at, &word.to_be_bytes());
 }
 
-// A number of four bytes, the highest one first.
+// A number of four bytes, the highest one first. It is `put_word` at another width: one expression each, and no trait of std has `to_be_bytes`.
 pub fn put_long(store: &mut [u8], at: usize, number: u32)
     requires { at + 4 ≤ length store.old }
     ensures { store.new ≡ sets store.old at (long_bytes number) }
