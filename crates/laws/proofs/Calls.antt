@@ -34,14 +34,14 @@ module _ {F A B : Type 0} (g : Mut F (A × Unit {0}) B) (f : F) (h : A → B)
   pub mapped_table : (n : ℕ) → length xs ≡ n → IsMapOf g f xs ys n → ys ≡ table n (λ k. h (get_or xs k d))
   mapped_table n long m = is_table n (λ k. h (get_or xs k d)) ys e m.long (λ k b. mapped_at n 0 f (λ i. f) m.each k zero-le (omega arith))
 
-module _ {F B : Type 0} (g : Mut F (ℕ × Unit {0}) B) (f : F) (h : ℕ → B)
-    (calls : (k : ℕ) (r : B) (q : F) → Called g f (k, tt) r q → (r ≡ h k) × (q ≡ f)) (ys : List B) (e : B) where
-  tabled_at : (n i : ℕ) (p : F) → p ≡ f → IsFromFnResultFrom g p ys i n → (k : ℕ) → i ≤ k → k < i + n → get_or ys k e ≡ h k
-  tabled_at zero i p s m k l b = absurd (omega arith)
-  tabled_at (suc n) i p s (q, y, at_y, ran, rest) k l b =
-      let c = calls i y q (subst (λ (z : F). Called g z (i, tt) y q) s ran) in
-      ⊎_elim (λ r. subst (λ (j : ℕ). get_or ys j e ≡ h j) r (at_y.1 e ∙ c.0)) (λ m. tabled_at n (i + 1) q c.1 rest k (omega arith) (omega arith))
+module _ {F B : Type 0} (g : Mut F (ℕ × Unit {0}) B) (f : F) (h : ℕ → B) (n : ℕ)
+    (calls : (k : ℕ) → k < n → (r : B) (q : F) → Called g f (k, tt) r q → (r ≡ h k) × (q ≡ f)) (ys : List B) (e : B) where
+  tabled_at : (m i : ℕ) (p : F) → p ≡ f → i + m ≡ n → IsFromFnResultFrom g p ys i m → (k : ℕ) → i ≤ k → k < n → get_or ys k e ≡ h k
+  tabled_at zero i p s u w k l b = absurd (omega arith)
+  tabled_at (suc m) i p s u (q, y, at_y, ran, rest) k l b =
+      let c = calls i (omega arith) y q (subst (λ (z : F). Called g z (i, tt) y q) s ran) in
+      ⊎_elim (λ r. subst (λ (j : ℕ). get_or ys j e ≡ h j) r (at_y.1 e ∙ c.0)) (λ v. tabled_at m (i + 1) q c.1 (omega arith) rest k (omega arith) b)
       (eq-or-lt_of_le l)
 
-  pub tabled : (n : ℕ) → IsFromFnResult g f ys n → ys ≡ table n h
-  tabled n m = is_table n h ys e m.long (λ k b. tabled_at n 0 f (λ i. f) m.each k zero-le (omega arith))
+  pub tabled : IsFromFnResult g f ys n → ys ≡ table n h
+  tabled m = is_table n h ys e m.long (λ k b. tabled_at n 0 f (λ i. f) (omega arith) m.each k zero-le b)

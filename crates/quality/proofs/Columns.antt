@@ -16,7 +16,7 @@ unfolding cells
 length_cells c = length_table 9 _
 
 -- the cell at a slot is made of the three arrays' entries there
-abbrev cell_of : Column → ℕ → Cell
+abbrev pub cell_of : Column → ℕ → Cell
 cell_of c k = record { state = get_or c.states k 0; flag = get_or c.flags k 0; value = get_or c.values k (pos 0) }
 
 pub slot_cells : (c : Column) (k : ℕ) → k < 9 → cell_of c k ≡ slot (cells c) k

@@ -1,58 +1,37 @@
 // The steps of "Settling a station" on one element's column: each makes a new column from the one that the step before left.
-// A cell's three numbers are stored in place: in a loop that is not unrolled, `put` would copy the column at every turn.
 #![tactic(auto)]
 
 ghost use Rattle.std.specs.Prelude.{◌≡◌, ◌<◌};
-ghost use Rattle.quality.specs.Coded.{cells, limits_of};
+ghost use Rattle.quality.specs.Coded.{cells};
 ghost use Rattle.quality.specs.Steps.{range_column, dew_column, wind_column, suspect_at, time_cell, fill_cell, between};
 ghost use Rattle.quality.specs.Valid.{Sized};
 
-use quality::column::{Column, at, put, with_flag};
+use quality::column::Column;
 use quality::internal::{dew_cell, wind_cell};
-use quality::limits::OffsetLimits;
+use quality::limits::Limits;
 use quality::range::range_cell;
 use quality_time::{fill_cell, time_cell};
+use std::array::from_fn;
 
 // The range step, every cell against the limits.
-pub fn range_column(l: OffsetLimits, c: Column) -> Column
-    ensures { cells result ≡ range_column (limits_of l) (cells c) }
+pub fn range_column(l: Limits, c: Column) -> Column
+    ensures { cells result ≡ range_column l (cells c) }
 {
-    let mut r = c;
-    for k in 0..9 {
-        let x = range_cell(l, at(c, k));
-        r.values[k] = x.value;
-        r.states[k] = x.state;
-        r.flags[k] = x.flag;
-    }
-    r
+    Column::of(from_fn(|k| range_cell(l, c.at(k))))
 }
 
 // The internal step on dew points d, beside the temperatures t.
 pub fn dew_column(t: Column, d: Column) -> Column
     ensures { cells result ≡ dew_column (cells t) (cells d) }
 {
-    let mut r = d;
-    for k in 0..9 {
-        let x = dew_cell(at(t, k), at(d, k));
-        r.values[k] = x.value;
-        r.states[k] = x.state;
-        r.flags[k] = x.flag;
-    }
-    r
+    Column::of(from_fn(|k| dew_cell(t.at(k), d.at(k))))
 }
 
 // The internal step on wind speeds w, beside each slot's dd.
 pub fn wind_column(dd: [u8; 9], w: Column) -> Column
     ensures { cells result ≡ wind_column dd (cells w) }
 {
-    let mut r = w;
-    for k in 0..9 {
-        let x = wind_cell(dd[k], at(w, k));
-        r.values[k] = x.value;
-        r.states[k] = x.state;
-        r.flags[k] = x.flag;
-    }
-    r
+    Column::of(from_fn(|k| wind_cell(dd[k], w.at(k))))
 }
 
 // The column with its cell at slot k suspect.
@@ -60,34 +39,30 @@ pub fn suspect_at(c: Column, k: usize) -> Column
     requires { k < 9 }
     ensures { cells result ≡ suspect_at k (cells c) }
 {
-    put(c, k, with_flag(at(c, k), 4))
+    let mut r = c;
+    r.flags[k] = 4;
+    r
 }
 
-// The time step on a column, slots 1 to 7; a temperature is mended.
+// The time step on a column, slots 1 to 7. `mends` says whether the element is mended, as the temperature is: a word of the rule's own.
 pub fn time_column(mends: bool, c: Column) -> Column
     requires { Sized (cells c) }
     ensures { cells result ≡ between (time_cell mends) (cells c) }
 {
-    let mut r = c;
-    for k in 1..8 {
-        let x = time_cell(mends, at(c, k - 1), at(c, k), at(c, k + 1));
-        r.values[k] = x.value;
-        r.states[k] = x.state;
-        r.flags[k] = x.flag;
-    }
-    r
+    let timed = from_fn(|k| match k {
+        1..=7 => time_cell(mends, c.at(k - 1), c.at(k), c.at(k + 1)),
+        _ => c.at(k),
+    });
+    Column::of(timed)
 }
 
 // The fill step on a column, slots 1 to 7.
 pub fn fill_column(c: Column) -> Column
     ensures { cells result ≡ between fill_cell (cells c) }
 {
-    let mut r = c;
-    for k in 1..8 {
-        let x = fill_cell(at(c, k - 1), at(c, k), at(c, k + 1));
-        r.values[k] = x.value;
-        r.states[k] = x.state;
-        r.flags[k] = x.flag;
-    }
-    r
+    let filled = from_fn(|k| match k {
+        1..=7 => fill_cell(c.at(k - 1), c.at(k), c.at(k + 1)),
+        _ => c.at(k),
+    });
+    Column::of(filled)
 }

@@ -1,21 +1,14 @@
 -- `quality_columns::dew_column` meets its contract.
-use mathlib.Core.Path.{◌∙◌, ap₂}
+use mathlib.Core.Path.{◌∙◌}
 use borrow.Author.Rules.{rules}
-use Rattle.laws.proofs.Fill as Fill
+use Rattle.laws.proofs.Calls.{tabled}
+use Rattle.quality.specs.Cell.{none, slot}
+use Rattle.quality.specs.Coded.{cells}
 use Rattle.quality.specs.Steps.{dew_cell, dew_column}
-use Rattle.quality.proofs.Columns.{length_cells}
-use Rattle.quality.proofs.InPlace.{filled_more}
 use Rattle.quality_columns.proofs.dew_column.Goals as goal
-
-pub loop-k-init : goal.loop-k-init
-loop-k-init c = (Fill.none _ _ _ _ (length_cells _), record { values = search rules; states = search rules; flags = search rules })
-
-pub loop-k-preserved : goal.loop-k-preserved
-loop-k-preserved c =
-    let x = c.dew_cell-x.result in
-    filled_more c.loop-k.r c.loop-k.k x.state x.flag x.value _ c.loop-k.invariant (search rules)
-    (c.dew_cell-x.ensures ∙ ap₂ dew_cell c.at.ensures c.at-in-loop-k.ensures)
 
 pub returns : goal.returns
 unfolding dew_column
-returns c = Fill.whole c.loop-k.invariant.0 (search rules)
+returns c =
+    let a = c.args in
+    c.of.ensures ∙ tabled _ _ (λ k. dew_cell (slot (cells a.t) k) (slot (cells a.d) k)) 9 (λ k l r q s. search rules) _ none c.from_fn.ensures.items

@@ -1,21 +1,15 @@
 -- `quality_columns::wind_column` meets its contract.
-use mathlib.Core.Path.{◌∙◌, ap}
+use mathlib.Core.Path.{◌∙◌}
 use borrow.Author.Rules.{rules}
-use Rattle.laws.proofs.Fill as Fill
+use lib.ListN.{get_or}
+use Rattle.laws.proofs.Calls.{tabled}
+use Rattle.quality.specs.Cell.{none, slot}
+use Rattle.quality.specs.Coded.{cells}
 use Rattle.quality.specs.Steps.{wind_cell, wind_column}
-use Rattle.quality.proofs.Columns.{length_cells}
-use Rattle.quality.proofs.InPlace.{filled_more}
 use Rattle.quality_columns.proofs.wind_column.Goals as goal
-
-pub loop-k-init : goal.loop-k-init
-loop-k-init c = (Fill.none _ _ _ _ (length_cells _), record { values = search rules; states = search rules; flags = search rules })
-
-pub loop-k-preserved : goal.loop-k-preserved
-loop-k-preserved c =
-    let x = c.wind_cell-x.result in
-    filled_more c.loop-k.r c.loop-k.k x.state x.flag x.value _ c.loop-k.invariant (search rules)
-    (c.wind_cell-x.ensures ∙ ap (wind_cell _) c.at.ensures)
 
 pub returns : goal.returns
 unfolding wind_column
-returns c = Fill.whole c.loop-k.invariant.0 (search rules)
+returns c =
+    let a = c.args in
+    c.of.ensures ∙ tabled _ _ (λ k. wind_cell (get_or a.dd k 0) (slot (cells a.w) k)) 9 (λ k l r q s. search rules) _ none c.from_fn.ensures.items

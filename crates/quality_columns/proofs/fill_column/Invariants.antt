@@ -1,9 +1,0 @@
--- `quality_columns::fill_column` meets its contract.
-use Rattle.quality.specs.Steps.{fill_cell}
-use Rattle.quality.specs.Coded.{cells}
-use Rattle.quality.proofs.Between.{Moved}
-use Rattle.quality.proofs.Columns.{Nine}
-use Rattle.quality_columns.proofs.fill_column.Given as goal
-
-abbrev pub invariant-loop-k : goal.invariant-loop-k
-invariant-loop-k l = Moved (fill_cell) (cells l.c) (cells l.r) l.k × Nine l.r
