@@ -6,14 +6,13 @@ use mathlib.Core.List.{List, [], ◌∷◌}
 use Prim.Native.Nat.{ℕ, suc, ◌+◌, ◌<◌, ◌≤◌}
 use native.Mathlib.Numerals.{add-one}
 use native.Mathlib.Omega.{arith}
-use lib.Dec.{eqb}
+use lib.Dec.{eqb, eqb-suc-suc, eqb-suc-zero, eqb-zero-suc}
 use lib.ListN.{length, drop, get_or, drop_of_length-le}
 use lib.Seq.{drop-cons}
 use Rattle.std.specs.Prelude.{None, Some}
 use Rattle.std.specs.List.{position, position_or_len}
 use borrow.Author.Tests.{ne_eqb}
 use Rattle.laws.proofs.Bools.{is_true, is_false, known}
-use Rattle.laws.proofs.Offset.{eqb_agrees}
 use Rattle.laws.proofs.Positions.{position_some, position_none}
 use Rattle.synop_bytes.specs.Bytes.{ended, is_known, check2}
 
@@ -25,13 +24,17 @@ step s i h = drop-cons s i 0 h ∙ ap (λ (k : ℕ). get_or s i 0 ∷ drop k s) 
 abbrev end_of : List ℕ → ℕ
 end_of s = position_or_len (λ b. eqb b 61) s
 
+empty : (s : List ℕ) → eqb (length s) 0 ≡ eqb 0 (length s)
+empty [] = refl
+empty (b ∷ s) = eqb-suc-zero (length s) ∙ sym (eqb-zero-suc (length s))
+
 ended_at : (s : List ℕ) → ended s ≡ eqb (end_of s + 1) (length s)
 unfolding ended
 ended_at [] = refl
 ended_at (b ∷ s) =
     elim (known (eqb b 61)) [
-      | is_true t ↦ rw t (eqb_agrees 1 (suc (length s)) (length s) 0 (λ h. omega arith) (λ h. omega arith))
-      | is_false f ↦ rw f (ended_at s ∙ eqb_agrees (1 + end_of s + 1) (suc (length s)) (end_of s + 1) (length s) (λ h. omega arith) (λ h. omega arith))
+      | is_true t ↦ rw t (empty s ∙ sym (eqb-suc-suc 0 (length s)))
+      | is_false f ↦ rw f (ended_at s ∙ sym (eqb-suc-suc (end_of s + 1) (length s)) ∙ ap (λ (n : ℕ). eqb n (suc (length s))) (omega arith))
     ]
 
 pub ended_some : (s : List ℕ) (i : ℕ) → position (λ b. eqb b 61) s ≡ Some i → ended s ≡ eqb (i + 1) (length s)
