@@ -1,4 +1,5 @@
-// Whether a station's block is sound: its slot heads and cells, by document 01's "The store".
+// Whether a station's block is sound: its slot heads and cells, by document 01's "The store". Each test takes
+// the store and a position in it: of a part cut out for it, each call would have to write the two ends.
 #![tactic(auto)]
 
 ghost use Rattle.std.specs.Prelude.{◌≡◌, ◌+◌, ◌*◌, ◌<◌, ◌≤◌, length};
@@ -35,12 +36,7 @@ fn are_heads(store: &[u8], at: usize, settled: u16) -> bool
     requires { at + raw_from ≤ length store.now }
     ensures { result ≡ all (λ k. sound_head settled store.now (at + head_at k)) 9 }
 {
-    for k in 0..9 {
-        if !is_head_at(store, at + HEAD_LENGTH * k, settled) {
-            return false;
-        }
-    }
-    true
+    (0..9).all(|k| is_head_at(store, at + HEAD_LENGTH * k, settled))
 }
 
 // A cell's value at a position. By `word_at`, of `from_be_bytes`, the test of a store takes half as long again.
@@ -70,25 +66,16 @@ fn are_nine(store: &[u8], at: usize, limits: Limits) -> bool
     requires { at + cell_length * 9 ≤ length store.now }
     ensures { result ≡ all (λ e. sound_cell limits.states limits.flags e store.now (at + cell_length * e)) 9 }
 {
-    for e in 0..9 {
-        if !is_cell_at(store, at + CELL_LENGTH * e, e, limits) {
-            return false;
-        }
-    }
-    true
+    (0..9).all(|e| is_cell_at(store, at + CELL_LENGTH * e, e, limits))
 }
 
-// The 81 raw or checked cells from a position on, slot by slot: a loop over nine is unrolled, which one over 81 is not.
+// The 81 raw or checked cells from a position on, slot by slot: a loop over nine is unrolled, which one over 81 is not. One expression, as in
+// `are_heads`, over another test.
 fn are_cells(store: &[u8], at: usize, limits: Limits) -> bool
     requires { at + sheet_length ≤ length store.now }
     ensures { result ≡ all (λ j. sound_cell limits.states limits.flags (cell_element j) store.now (at + cell_length * j)) 81 }
 {
-    for k in 0..9 {
-        if !are_nine(store, at + SLOT_LENGTH * k, limits) {
-            return false;
-        }
-    }
-    true
+    (0..9).all(|k| are_nine(store, at + SLOT_LENGTH * k, limits))
 }
 
 // The block that begins at a position, of a station with that settled number: heads, raw cells with state 0 or 1, or a humidity in D's, and

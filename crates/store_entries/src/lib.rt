@@ -1,4 +1,5 @@
-// The store's header and station entries: the date, a station's climate row and settled number, and its block.
+// The store's header and station entries: the date, a station's climate row and settled number, and its block. That the store is framed and that
+// it has a station at the index are two facts, of the store alone and of both: `engine_answers` has the record of them for the calls.
 #![tactic(auto)]
 
 ghost use Rattle.std.specs.Prelude.{◌≡◌, ◌+◌, ◌<◌, ◌≤◌, length};

@@ -1,16 +1,19 @@
--- `store_blocks::are_heads` meets its contract. The loop's invariant: each head passed is sound.
+-- `store_blocks::are_heads` meets its contract.
+use mathlib.Core.Path.{refl, ◌∙◌}
+use mathlib.Core.Bool.{Bool}
+use Prim.Native.Nat.{ℕ, ◌+◌}
 use borrow.Author.Rules.{rules}
-use Rattle.store_numbers.proofs.Passed.{none, more, stopped, whole}
+use borrow.Author.Tests.{tests}
+use Rattle.std.proofs.lemmas.Iterator.{YieldsList-from_range}
+use Rattle.std.proofs.lemmas.Iterator.Search.{all_from_yields_List}
+use Rattle.store_layout.specs.Layout.{head_at}
+use Rattle.store_layout.specs.Sound.{sound_head}
+use Rattle.store_numbers.proofs.Passed.{all_in_range}
 use Rattle.store_blocks.proofs.are_heads.Goals as goal
 
-pub loop-k-init : goal.loop-k-init
-loop-k-init c = none _ _
-
-pub returns-then-not-is_head_at : goal.returns-then-not-is_head_at
-returns-then-not-is_head_at c = stopped c.loop-k.invariant (search rules) _ c.is_head_at.ensures c.if-not-is_head_at.true
-
-pub loop-k-preserved : goal.loop-k-preserved
-loop-k-preserved c = more c.loop-k.invariant (search rules) _ c.is_head_at.ensures c.if-not-is_head_at.false
-
 pub returns : goal.returns
-returns c = whole c.loop-k.invariant (search rules)
+returns c =
+    let a = c.args in
+    let test : ℕ → Bool = λ k. sound_head a.settled a.store.now (a.at + head_at k) in
+    all_from_yields_List test _ _ c.all.result c.all.ensures.ran (YieldsList-from_range 0 9 _ refl refl) (λ x b q d. search (rules, tests))
+    ∙ all_in_range test 9
