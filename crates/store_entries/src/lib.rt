@@ -29,6 +29,7 @@ pub fn date_of(store: &[u8]) -> Date
 }
 
 // The climate row of the station at an index.
+#[tactic(auto, using(store_layout::proofs::Stores::station_of_bytes), unfolding(store_layout::specs::Layout::decode_station))]
 pub fn row_of(store: &[u8], index: usize) -> u16
     requires { Framed store.now × (index < word store.now count_at) }
     ensures { result ≡ (station_at (decode store.now).stations index).row }
@@ -37,6 +38,7 @@ pub fn row_of(store: &[u8], index: usize) -> u16
 }
 
 // The settled number of the station at an index.
+#[tactic(auto, using(store_layout::proofs::Stores::station_of_bytes), unfolding(store_layout::specs::Layout::decode_station))]
 pub fn settled_of(store: &[u8], index: usize) -> u16
     requires { Framed store.now × (index < word store.now count_at) }
     ensures { result ≡ (station_at (decode store.now).stations index).settled }
@@ -45,6 +47,7 @@ pub fn settled_of(store: &[u8], index: usize) -> u16
 }
 
 // Another settled number of the station at an index.
+#[tactic(auto, using(crate::proofs::Marks::marked))]
 pub fn set_settled(store: &mut [u8], index: usize, settled: u16)
     requires { Framed store.old × (index < word store.old count_at) }
     ensures { Marked store.old index settled store.new }
@@ -61,6 +64,7 @@ pub fn block_start(store: &[u8], index: usize) -> usize
 }
 
 // The block of the station at an index.
+#[tactic(auto, using(store_layout::proofs::Stores::station_of_bytes), unfolding(store_layout::specs::Layout::decode_station))]
 pub fn block_of(store: &[u8], index: usize) -> &[u8; BLOCK_LENGTH]
     requires { Framed store.now × (index < word store.now count_at) }
     ensures { decode_block result.now ≡ (station_at (decode store.now).stations index).block }
