@@ -57,7 +57,8 @@ pub fn start_of(piece: &[u8]) -> Result<Start, Refusal>
 
 // ---- the reports
 
-// The groups of a piece, each after a space, behind the text that is there.
+// The groups of a piece, each after a space, behind the text that is there. By a cursor: the form that document 01 names for this place.
+#[tactic(auto, using(crate::proofs::Squeezed::first_put, crate::proofs::Squeezed::none_put))]
 pub fn squeeze<const N: usize>(text: &mut ArrayVec<u8, N>, piece: &[u8])
     ensures { Adds N text.old.items text.new.items (spaced (groups piece.now)) }
 {

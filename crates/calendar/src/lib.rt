@@ -20,7 +20,7 @@ fn is_leap(year: u32) -> bool
     year % 4 == 0 && (year % 100 != 0 || year % 400 == 0)
 }
 
-// The number of days of a month.
+// The number of days of a month: each arm is a line of the calendar's table.
 #[tactic(auto, unfolding(crate::specs::Dates::days_in))]
 fn days_in(year: u32, month: u32) -> u32
     ensures { result ≡ days_in year month }
@@ -56,7 +56,7 @@ fn next_day(date: Date) -> u32
     1
 }
 
-// The place of an hour among the hours of a day's slots.
+// The place of an hour among the hours of a day's slots. One call of std, as `text_bytes::find` is: a function for both would be std's own.
 fn place_of(hours: &[u32], gg: u32) -> Option<usize>
     ensures { result ≡ position (λ hour. gg == hour) hours.now }
 {

@@ -15,6 +15,7 @@ use synop_text::is_digit;
 pub struct Line {
     pub numbers: ArrayVec<u32, 67>,
     pub number: Option<u32>,
+    // A flag: of a byte that spoils the line, or of a number too many, no other field tells.
     pub good: bool,
 }
 

@@ -7,7 +7,7 @@ ghost use Rattle.refusals.specs.Refusals as refusals;
 // In the order of their numbers, 1 to 14; a number is made of one by `From`.
 #[derive(Clone, Copy, Debug, PartialEq, Eq)]
 pub enum Refusal {
-    // The text is empty or above 512 bytes, or its `=` is absent, early or not last.
+    // A report is empty or above 512 bytes, or its `=` is absent, early or not last. A bulletin is empty or above 16384 bytes.
     Unended,
     // A byte that no report has.
     UnknownByte,
@@ -41,6 +41,7 @@ impl From<Refusal> for u32 {
     ghost from_gives = { λ r n. n ≡ refusals.number r };
 
     fn from(r: Refusal) -> u32 {
+        // Each arm is a line of the table of refusals.
         match r {
             Refusal::Unended => 1,
             Refusal::UnknownByte => 2,

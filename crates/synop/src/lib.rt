@@ -46,7 +46,8 @@ fn content(p: Place, kept: &Parts) -> Report
     )
 }
 
-// What the groups are that were walked and have their shapes: the first check that fails, or the content.
+// What the groups are that were walked and have their shapes: the first check that fails, or the content. `ranged` is what check 4 found,
+// which is told only where no check before it fails.
 #[tactic(auto, unfolding(crate::specs::Report::answered))]
 fn answer(p: Place, ranged: bool, kept: &Parts) -> Result<Report, Refusal>
     ensures { reports.meaning result ≡ reports.answered p true ranged kept.now.groups }
@@ -65,7 +66,8 @@ fn answer(p: Place, ranged: bool, kept: &Parts) -> Result<Report, Refusal>
 
 // ---- the walk
 
-// The groups of a text that passes checks 1 and 2, one after the other.
+// The groups of a text that passes checks 1 and 2, one after the other. By a cursor: the form that document 01 names for this place.
+#[tactic(auto, using(crate::proofs::Walking::stop, crate::proofs::Walking::past))]
 fn walk(text: &[u8]) -> Result<Report, Refusal>
     ensures { reports.meaning result ≡ reports.read (checks.of_groups (tokens text.now)) (tokens text.now) }
 {

@@ -96,18 +96,7 @@ fn ordered(last: u8, x: Characters) -> Place
     Place::Wrong
 }
 
-// The group right after Nddff.
-#[tactic(auto, unfolding(crate::specs::Places::first_of_one))]
-fn first_of_one(strong: bool, x: Characters) -> Place
-    ensures { result ≡ places.first_of_one strong x }
-{
-    if strong && x.a == b'0' && x.b == b'0' {
-        return Place::Gale;
-    }
-    ordered(b'0', x)
-}
-
-// Whether a 55 run is under way after a group of a later section.
+// Whether a 55 run is under way after a group of a later section. `run` is what `Later` holds, and the answer is what the next one holds.
 fn runs(run: bool, x: Characters) -> bool
     ensures { result ≡ places.runs run x }
 {
@@ -116,6 +105,7 @@ fn runs(run: bool, x: Characters) -> bool
     begins || (run && !ends)
 }
 
+#[tactic(auto, unfolding(crate::specs::Places::first_of_one))]
 fn five_after(p: Place, x: Characters) -> Place
     ensures { result ≡ places.five_after p x }
 {
@@ -124,8 +114,8 @@ fn five_after(p: Place, x: Characters) -> Place
         Place::Time => Place::Station,
         Place::Station => Place::Visibility,
         Place::Visibility => Place::Wind(x.d == b'9' && x.e == b'9'),
-        Place::Wind(strong) => first_of_one(strong, x),
-        Place::Gale => ordered(b'0', x),
+        Place::Wind(true) if x.a == b'0' && x.b == b'0' => Place::Gale,
+        Place::Wind(_) | Place::Gale => ordered(b'0', x),
         Place::One(last) => ordered(last, x),
         Place::Later(n, run) => Place::Later(n, runs(run, x)),
         Place::Start | Place::Nothing | Place::Wrong => Place::Wrong,

@@ -65,17 +65,8 @@ fn in_three(g: Group) -> Option<Part>
     }
 }
 
+// The part of a report that a group at this place is: of the later sections only section 3, and there no group of a 55 run.
 #[tactic(auto, unfolding(crate::specs::Parts::of_later))]
-fn of_later(n: u8, run: bool, g: Group) -> Option<Part>
-    ensures { result ≡ parts.of_later n run g }
-{
-    if n == 3 && !run {
-        return in_three(g);
-    }
-    None
-}
-
-// The part of a report that a group at this place is.
 pub fn part_of(p: Place, g: Group) -> Option<Part>
     ensures { result ≡ parts.part_of p g }
 {
@@ -86,7 +77,7 @@ pub fn part_of(p: Place, g: Group) -> Option<Part>
         Place::Wind(_) => Some(Part::Wind),
         Place::Gale => Some(Part::Gale),
         Place::One(d) => of_one(d),
-        Place::Later(n, run) => of_later(n, run, g),
+        Place::Later(3, false) => in_three(g),
         _ => None,
     }
 }

@@ -20,7 +20,7 @@ pub struct Characters {
 // What kind of group it is.
 #[derive(Clone, Copy, Debug, PartialEq, Eq)]
 pub enum Group {
-    // None of the kinds below. It stands first so that it is also what a list of groups has past its end.
+    // None of the kinds below.
     Other,
     Aaxx,
     Nil,
@@ -37,7 +37,7 @@ pub struct Span {
     pub end: usize,
 }
 
-// A place in the text between two groups.
+// A place in the text between two groups. By value, and no iterator: the form that document 01 names for this place.
 #[derive(Clone, Copy)]
 pub struct Cursor {
     pub at: usize,
@@ -45,7 +45,7 @@ pub struct Cursor {
 
 // ---- characters
 
-// A character that belongs to no group.
+// A character that belongs to no group. Another table than that of `synop_checks::is_unit`, which has four codes too.
 fn parts(b: u8) -> bool
     ensures { result ≡ characters.parts b }
 {

@@ -9,7 +9,7 @@ use arrayvec::ArrayVec;
 
 // ---- reading
 
-// Where a byte stands first.
+// Where a byte stands first. One call of std, as `calendar::place_of` is: a function for both would be std's own.
 pub fn find(s: &[u8], b: u8) -> Option<usize>
     ensures { result ≡ position (λ x. x == b) s.now }
 {

@@ -10,7 +10,7 @@ use arrayvec::ArrayVec;
 use itoa::{Buffer, Integer};
 use text_bytes::{put, put_all};
 
-// The digit of n in the place of the ones.
+// The digit of n in the place of the ones: by hand for `five_digits`, which says why.
 fn last_digit(n: u32) -> u8
     ensures { result ≡ numbers.last_digit n }
 {
