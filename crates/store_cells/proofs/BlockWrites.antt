@@ -6,21 +6,22 @@
 use mathlib.Core.Path.{◌≡◌, refl, sym, ◌∙◌, ap}
 use mathlib.Core.List.{List, [], ◌∷◌}
 use mathlib.Core.Logic.{◌⊎◌, inl, inr, ⊎_elim}
-use Prim.Native.Nat.{ℕ, ◌+◌, ◌*◌, ◌/◌, ◌%◌, ◌<◌, ◌≤◌}
+use Prim.Native.Nat.{ℕ, ◌+◌, ◌*◌, ◌-◌, ◌<◌, ◌≤◌}
 use native.Mathlib.Omega.{arith}
+use lib.IntN.{ℤ, pos, negsuc}
 use lib.ListN.{length, take, drop, set}
+use mir.Syntax.{w16}
+use mir.Val.{SFits}
 use lib.Seq.{sets, get_or-set_same, get_or-set_other}
 use Rattle.laws.specs.Table.{table}
-use Rattle.laws.specs.Offset.{value}
 use Rattle.laws.proofs.Offset.{side}
 use Rattle.laws.proofs.Tables.{get_d_table, table_ext}
 use Rattle.quality.specs.Cell.{Cell}
-use Rattle.quality.specs.Coded.{cell_of}
 use Rattle.quality.specs.Elements.{column}
 use Rattle.quality.specs.declared.head.SlotHead.{SlotHead}
-use Rattle.store_layout.specs.Layout.{byte, head_length, ir_in, tr_in, dd_in, rank_in, copy_in, signed, unsigned, word, word_bytes, cell_length, sheet_length, block_length, raw_from, checked_from, cell_index, head_at, decode_head, encode_head, decode_cell, encode_cell, decode_block}
+use Rattle.store_layout.specs.Layout.{byte, head_length, ir_in, tr_in, dd_in, rank_in, copy_in, signed, unsigned, cell_length, sheet_length, block_length, raw_from, checked_from, cell_index, head_at, decode_head, encode_head, decode_cell, encode_cell, decode_block}
 use Rattle.store_layout.specs.Updates.{with_copy}
-use Rattle.store_layout.proofs.Numbers.{word_of_bytes, value_signed, unsigned_value}
+use Rattle.store_layout.proofs.Numbers.{word_of_bytes, signed_low, signed_high}
 use Rattle.store_layout.proofs.Parts.{Same, same_is}
 use Rattle.store_layout.proofs.Read.{head_same, cell_same}
 use Rattle.store_layout.proofs.Writes.{part_inside, same_outside}
@@ -119,31 +120,22 @@ module _ (s vs : List ℕ) (long : length s ≡ block_length) where
       }
 
 -- ---- a cell's bytes, read again: of any value of 16 bits
-pub cell_bytes : (state flag x : ℕ) → x < 65536 → decode_cell (encode_cell (cell_of state flag x)) 0 ≡ cell_of state flag x
+back_signed : (z : ℤ) → SFits w16 z → signed (unsigned z) ≡ z
+back_signed (pos n) h = signed_low n (omega (arith, h.sfits))
+back_signed (negsuc n) h = signed_high (65535 - n) (omega (arith, h.sfits)) ∙ ap negsuc (omega (arith, h.sfits))
+
+pub cell_bytes : (d : Cell) → SFits w16 d.value → decode_cell (encode_cell d) 0 ≡ d
 unfolding decode_cell encode_cell
-cell_bytes state flag x h = λ d. record { state = state; flag = flag; value = same d }
-  where
-    turned : (x + 32768) % 65536 < 65536
-    turned = omega arith
-
-    back : ((x + 32768) % 65536 + 32768) % 65536 ≡ x
-    back = omega arith
-
-    same : signed (word (word_bytes (unsigned (value x))) 0) ≡ value x
-    same =
-        ap signed (word_of_bytes (unsigned (value x)) ∙ unsigned_value x h)
-        ∙ sym (value_signed ((x + 32768) % 65536) turned)
-        ∙ ap value back
+cell_bytes d h = rw (word_of_bytes (unsigned d.value), back_signed d.value h)
 
 -- a cell's bytes stored where it lies
-pub cell_put : (s s' : List ℕ) → length s ≡ block_length → (a : Area) (e k : ℕ) → e < 9 → k < 9 → (state flag x at high low : ℕ) → x < 65536
-    → at ≡ cell_at a e k → high ≡ unsigned (value x) / 256 → low ≡ unsigned (value x) % 256
-    → s' ≡ sets s at (state ∷ flag ∷ high ∷ low ∷ []) → decode_block s' ≡ with_cell a e k (cell_of state flag x) (decode_block s)
+pub cell_put : (s s' : List ℕ) → length s ≡ block_length → (a : Area) (e k : ℕ) → e < 9 → k < 9 → (d : Cell) (at : ℕ) → SFits w16 d.value
+    → at ≡ cell_at a e k → s' ≡ sets s at (encode_cell d) → decode_block s' ≡ with_cell a e k d (decode_block s)
 unfolding encode_cell
-cell_put s s' long a e k l m state flag x at high low h p q r w =
-    rw (w, p, q, r)
-    (cell_written s (encode_cell (cell_of state flag x)) long refl a e k l m
-    ∙ ap (λ (c : Cell). with_cell a e k c (decode_block s)) (cell_bytes state flag x h))
+cell_put s s' long a e k l m d at h p w =
+    rw (w, p)
+    (cell_written s (encode_cell d) long refl a e k l m
+    ∙ ap (λ (c : Cell). with_cell a e k c (decode_block s)) (cell_bytes d h))
 
 -- a head's bytes stored where it lies
 pub head_put : (s s' : List ℕ) → length s ≡ block_length → (k : ℕ) → k < 9 → (h : SlotHead) → s' ≡ sets s (head_at k) (encode_head h)

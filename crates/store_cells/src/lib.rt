@@ -1,16 +1,17 @@
-// The cells of a station's block: where each lies, one read, one written.
+// The cells of a station's block: where each lies, one read, one written. An element and a slot are indices of arrays of nine, and are required
+// below 9 here and in `store_block`, as an index is below an array's length. With the area they name a cell: a struct of the three would be made
+// at each call and taken apart in it.
 #![tactic(auto)]
 
 ghost use Rattle.std.specs.Prelude.{◌≡◌, ◌+◌, ◌<◌, ◌≤◌};
 ghost use Rattle.quality.specs.Cell.{slot};
-ghost use Rattle.quality.specs.Coded.{cell};
 ghost use Rattle.quality.specs.Elements.{column};
-ghost use Rattle.store_layout.specs.Layout.{block_length, cell_length, checked_from, decode_cell, decode_block};
+ghost use Rattle.store_layout.specs.Layout.{block_length, cell_length, checked_from, decode_block};
 ghost use Rattle.store_cells.specs.Areas.{sheet_in, area_from, cell_at, with_cell};
 
-use quality::column::OffsetCell;
+use quality::column::Cell;
 use store_numbers::at::{BLOCK_LENGTH, CELL_LENGTH, CHECKED_FROM, RAW_FROM};
-use store_numbers::write::put_bytes;
+use store_numbers::cell;
 
 // A block's two sheets of cells.
 #[derive(Clone, Copy)]
@@ -37,39 +38,20 @@ pub fn cell_at(area: Area, element: usize, k: usize) -> usize
     from(area) + CELL_LENGTH * (9 * k + element)
 }
 
-// The cell at a position.
-pub fn cell_in(block: &[u8; BLOCK_LENGTH], at: usize) -> OffsetCell
-    requires { at + cell_length ≤ block_length }
-    ensures { cell result ≡ decode_cell block.now at }
-{
-    OffsetCell {
-        state: block[at],
-        flag: block[at + 1],
-        value: store_layout::to_offset(block[at + 2], block[at + 3]),
-    }
-}
-
 // The cell of an element at slot k.
-pub fn cell_of(block: &[u8; BLOCK_LENGTH], area: Area, element: usize, k: usize) -> OffsetCell
+#[tactic(auto, using(crate::proofs::Sheets::cell_read))]
+pub fn cell_of(block: &[u8; BLOCK_LENGTH], area: Area, element: usize, k: usize) -> Cell
     requires { (element < 9) × (k < 9) }
-    ensures { cell result ≡ slot (column (sheet_in area (decode_block block.now)) element) k }
+    ensures { result ≡ slot (column (sheet_in area (decode_block block.now)) element) k }
 {
-    cell_in(block, cell_at(area, element, k))
+    cell::cell_at(block, cell_at(area, element, k))
 }
 
 // Another cell of an element at slot k.
-pub fn put_cell(block: &mut [u8; BLOCK_LENGTH], area: Area, element: usize, k: usize, d: OffsetCell)
+#[tactic(auto, using(crate::proofs::BlockWrites::cell_put))]
+pub fn put_cell(block: &mut [u8; BLOCK_LENGTH], area: Area, element: usize, k: usize, d: Cell)
     requires { (element < 9) × (k < 9) }
-    ensures { decode_block block.new ≡ with_cell area element k (cell d) (decode_block block.old) }
+    ensures { decode_block block.new ≡ with_cell area element k d (decode_block block.old) }
 {
-    put_bytes(
-        block,
-        cell_at(area, element, k),
-        &[
-            d.state,
-            d.flag,
-            store_layout::high_of(d.value),
-            store_layout::low_of(d.value),
-        ],
-    );
+    cell::put_cell(block, cell_at(area, element, k), d);
 }
