@@ -2,45 +2,38 @@
 // before left and makes new ones.
 #![tactic(auto)]
 
-ghost use Rattle.std.specs.Prelude.{◌≡◌, ◌<◌};
-ghost use Rattle.quality.specs.Coded.{cells, sheet};
-ghost use Rattle.quality.specs.Settled.{time_of, fill_of, range, internal, time, fill, one_step, settled};
-ghost use Rattle.quality.specs.Valid.{Sized, ValidSheet};
+ghost use Rattle.std.specs.Prelude.{◌≡◌};
+ghost use Rattle.quality.specs.Coded.{sheet};
+ghost use Rattle.quality.specs.Limits.{row_of, is_warm};
+ghost use Rattle.quality.specs.Settled.{range, internal, time, fill, one_step, settled};
+ghost use Rattle.quality.specs.Valid.{ValidSheet};
 
-use quality::column::{Column, at};
+use quality::column::Column;
 use quality::internal::maximum_below_minimum;
+use quality::limits::{Climate, Season};
 use quality::step::Step;
 use quality_columns::{
     dew_column, fill_column, range_column, suspect_at, time_column, wind_column,
 };
 use quality_limits::limits_for;
+use std::array::from_fn;
 
 // 1. Range: every element's column against its limits.
-pub fn range_all(row: usize, warm: bool, s: [Column; 9]) -> [Column; 9]
-    requires { row < 2 }
-    ensures { sheet result ≡ range row warm (sheet s) }
+pub fn range_all(climate: Climate, season: Season, s: [Column; 9]) -> [Column; 9]
+    ensures { sheet result ≡ range (row_of climate) (is_warm season) (sheet s) }
 {
-    let mut r = s;
-    for e in 0..9 {
-        let c = s[e];
-        r[e] = range_column(limits_for(e, row, warm), c);
-    }
-    r
+    from_fn(|e| range_column(limits_for(e, climate, season), s[e]))
 }
 
 // 2. Internal: dew points beside temperatures, wind speeds beside each slot's dd, the maximum of the day beside the minimum of the night.
 pub fn internal_all(dd: [u8; 9], s: [Column; 9]) -> [Column; 9]
     ensures { sheet result ≡ internal dd (sheet s) }
 {
-    let t = s[0];
-    let d = s[1];
-    let w = s[3];
-    let x = s[7];
-    let m = s[8];
+    let [t, d, _, w, _, _, _, x, m] = s;
     let mut r = s;
     r[1] = dew_column(t, d);
     r[3] = wind_column(dd, w);
-    if maximum_below_minimum(at(x, 4), at(m, 0)) {
+    if maximum_below_minimum(x.at(4), m.at(0)) {
         r[7] = suspect_at(x, 4);
         r[8] = suspect_at(m, 0);
         return r;
@@ -48,73 +41,53 @@ pub fn internal_all(dd: [u8; 9], s: [Column; 9]) -> [Column; 9]
     r
 }
 
-// The time step on the column of element e.
-fn time_element(e: usize, c: Column) -> Column
-    requires { Sized (cells c) }
-    ensures { cells result ≡ time_of e (cells c) }
-{
-    if e <= 2 {
-        return time_column(e == 0, c);
-    }
-    c
-}
-
 // 3. Time: T, D and P, each value beside its neighbours in time.
 pub fn time_all(s: [Column; 9]) -> [Column; 9]
     requires { ValidSheet (sheet s) }
     ensures { sheet result ≡ time (sheet s) }
 {
-    let mut r = s;
-    for e in 0..9 {
-        let c = s[e];
-        r[e] = time_element(e, c);
-    }
-    r
-}
-
-// The fill step on the column of element e.
-fn fill_element(e: usize, c: Column) -> Column
-    ensures { cells result ≡ fill_of e (cells c) }
-{
-    if e <= 3 {
-        return fill_column(c);
-    }
-    c
+    from_fn(|e| {
+        if e <= 2 {
+            time_column(e == 0, s[e])
+        } else {
+            s[e]
+        }
+    })
 }
 
 // 4. Fill: T, D, P and W, what is missing between two neighbours in time.
 pub fn fill_all(s: [Column; 9]) -> [Column; 9]
     ensures { sheet result ≡ fill (sheet s) }
 {
-    let mut r = s;
-    for e in 0..9 {
-        let c = s[e];
-        r[e] = fill_element(e, c);
-    }
-    r
+    from_fn(|e| if e <= 3 { fill_column(s[e]) } else { s[e] })
 }
 
-// One of the four, on the columns of a station of that climate row in that season.
-pub fn one_step(step: Step, row: usize, warm: bool, dd: [u8; 9], s: [Column; 9]) -> [Column; 9]
-    requires row_bound { row < 2 }
-    requires valid_sheet { ValidSheet (sheet s) }
-    ensures { sheet result ≡ one_step step row warm dd (sheet s) }
+// One of the four, on the columns of a station of that climate in that season. The step is data, which a station's settled number gives, so
+// a match says which function it is.
+pub fn one_step(
+    step: Step,
+    climate: Climate,
+    season: Season,
+    dd: [u8; 9],
+    s: [Column; 9],
+) -> [Column; 9]
+    requires { ValidSheet (sheet s) }
+    ensures { sheet result ≡ one_step step (row_of climate) (is_warm season) dd (sheet s) }
 {
     match step {
-        Step::Range => range_all(row, warm, s),
+        Step::Range => range_all(climate, season, s),
         Step::Internal => internal_all(dd, s),
         Step::Time => time_all(s),
         Step::Fill => fill_all(s),
     }
 }
 
-// The checked columns of a station of that climate row in that season, from each slot's dd and the raw columns.
-pub fn settle(row: usize, warm: bool, dd: [u8; 9], raw: [Column; 9]) -> [Column; 9]
-    requires row_bound { row < 2 }
-    requires valid_sheet { ValidSheet (sheet raw) }
-    ensures { sheet result ≡ settled row warm dd (sheet raw) }
+// The checked columns of a station of that climate in that season, from each slot's dd and the raw columns.
+pub fn settle(climate: Climate, season: Season, dd: [u8; 9], raw: [Column; 9]) -> [Column; 9]
+    requires { ValidSheet (sheet raw) }
+    ensures { sheet result ≡ settled (row_of climate) (is_warm season) dd (sheet raw) }
 {
-    let ranged = range_all(row, warm, raw);
+    let ranged = range_all(climate, season, raw);
     let consistent = internal_all(dd, ranged);
     fill_all(time_all(consistent))
 }

@@ -1,23 +1,18 @@
 -- `quality_steps::range_all` meets its contract.
-use mathlib.Core.Path.{refl, ◌∙◌, ap₂}
+use mathlib.Core.Path.{◌∙◌}
 use borrow.Author.Rules.{rules}
-use Rattle.laws.proofs.Fill.{whole}
+use lib.ListN.{get_or}
+use Rattle.laws.proofs.Calls.{tabled_as}
+use Rattle.quality.specs.Coded.{cells}
+use Rattle.quality.specs.Limits.{limits, row_of, is_warm}
 use Rattle.quality.specs.Settled.{range}
 use Rattle.quality.specs.Steps.{range_column}
-use Rattle.quality.specs.Limits.{limits}
-use Rattle.quality.proofs.Sheets as Sheets
+use Rattle.quality.proofs.Sheets.{blank, table_sheet}
 use Rattle.quality_steps.proofs.range_all.Goals as goal
-
-pub loop-e-preserved : goal.loop-e-preserved
-loop-e-preserved c =
-    let a = c.args in
-    Sheets.more (λ j. range_column (limits j a.row a.warm)) a.s (search rules) c.loop-e.r c.range_column.result _ c.loop-e.invariant (search rules)
-    (c.range_column.ensures ∙ ap₂ range_column c.limits_for.ensures refl)
-
-pub loop-e-init : goal.loop-e-init
-unfolding range
-loop-e-init c = Sheets.none (λ j. range_column (limits j c.args.row c.args.warm)) c.args.s (search rules)
 
 pub returns : goal.returns
 unfolding range
-returns c = whole c.loop-e.invariant (search rules)
+returns c =
+    let a = c.args in
+    tabled_as _ _ cells (λ e. range_column (limits e (row_of a.climate) (is_warm a.season)) (cells (get_or a.s e blank))) 9 (λ k l r q s. search rules) _ blank c.from_fn.ensures.items
+    ∙ table_sheet (λ e. range_column (limits e (row_of a.climate) (is_warm a.season))) a.s (search rules)
