@@ -1,19 +1,20 @@
 // A station's block: its slot heads, and its raw and checked columns, read and written.
-ghost use Rattle.std.specs.Prelude.{◌≡◌, map, ◌<◌, length};
+ghost use Rattle.std.specs.Prelude.{◌≡◌, ◌<◌, length};
 ghost use Rattle.std.specs.Borrow.{sem, Lends, Array, u8 as byte};
-ghost use Rattle.quality.specs.Coded.{cell, cells, sheet};
+ghost use Rattle.quality.specs.Coded.{cells, sheet};
 ghost use Rattle.quality.specs.Elements.{column};
 ghost use Rattle.store_layout.specs.Model.{head_of};
 ghost use Rattle.store_layout.specs.Layout.{block_length, decode_block};
 ghost use Rattle.store_layout.specs.Updates.{with_slot, with_checked, with_copies};
 ghost use Rattle.store_cells.specs.Areas.{sheet_in, with_column};
-ghost use Rattle.store_block.specs.Coded.{directions_of, copy_for};
+ghost use Rattle.store_block.specs.Coded.{dd_of, directions_of, copy_for};
 
-use quality::column::{Column, OffsetCell};
+use quality::column::{Cell, Column};
 use quality::head::SlotHead;
-use store_cells::{Area, cell_at, cell_in, put_cell};
-use store_numbers::at::{BLOCK_LENGTH, COPY_IN, DD_IN, HEAD_LENGTH};
-use store_numbers::head::{head_at, put_head, unfiled};
+use std::array::from_fn;
+use store_cells::{Area, cell_of, put_cell};
+use store_numbers::at::{BLOCK_LENGTH, COPY_IN, HEAD_LENGTH};
+use store_numbers::head::{head_at, put_head};
 
 // A part of the store as a block. What a part was lent for is known only of a part that is passed itself, so the functions that the
 // store lends a part to take it as bytes, and call this.
@@ -35,6 +36,16 @@ pub enum Dd {
     Copy,
 }
 
+// A head's own dd or its copy: the one place that tells the two apart.
+fn dd_of(of: Dd, h: SlotHead) -> u8
+    ensures { result ≡ dd_of of h }
+{
+    match of {
+        Dd::Own => h.dd,
+        Dd::Copy => h.copy,
+    }
+}
+
 // The copies of dd: taken as a settling begins, cleared as it ends.
 #[derive(Clone, Copy)]
 pub enum Copies {
@@ -42,12 +53,13 @@ pub enum Copies {
     Cleared,
 }
 
-// A column to be filled.
-fn blank() -> Column {
-    Column {
-        values: [32768; 9],
-        states: [0; 9],
-        flags: [0; 9],
+// The copy of dd that a head gets: the one place that tells the two apart.
+fn copy_for(copies: Copies, h: SlotHead) -> u8
+    ensures { result ≡ copy_for copies h }
+{
+    match copies {
+        Copies::Taken => h.dd,
+        Copies::Cleared => 0,
     }
 }
 
@@ -56,52 +68,32 @@ fn column_of(block: &[u8; BLOCK_LENGTH], area: Area, element: usize) -> Column
     requires { element < 9 }
     ensures { cells result ≡ column (sheet_in area (decode_block block.now)) element }
 {
-    let mut c = blank();
-    for k in 0..9 {
-        c = quality::column::put(c, k, cell_in(block, cell_at(area, element, k)));
-    }
-    c
+    Column::of(from_fn(|k| cell_of(block, area, element, k)))
 }
 
 // The nine elements' columns.
 pub fn sheet_of(block: &[u8; BLOCK_LENGTH], area: Area) -> [Column; 9]
     ensures { sheet result ≡ sheet_in area (decode_block block.now) }
 {
-    let c = blank();
-    let mut r = [c; 9];
-    for e in 0..9 {
-        r[e] = column_of(block, area, e);
-    }
-    r
+    from_fn(|element| column_of(block, area, element))
 }
 
 // The nine slot heads.
 pub fn heads_of(block: &[u8; BLOCK_LENGTH]) -> [SlotHead; 9]
     ensures { result ≡ (decode_block block.now).heads }
 {
-    let mut r = [unfiled(); 9];
-    for k in 0..9 {
-        r[k] = head_at(block, HEAD_LENGTH * k);
-    }
-    r
+    from_fn(|k| head_at(block, HEAD_LENGTH * k))
 }
 
 // dd of each slot, its own or the copy.
 pub fn directions(block: &[u8; BLOCK_LENGTH], of: Dd) -> [u8; 9]
     ensures { result ≡ directions_of of (decode_block block.now) }
 {
-    let at = match of {
-        Dd::Own => DD_IN,
-        Dd::Copy => COPY_IN,
-    };
-    let mut r = [0; 9];
-    for k in 0..9 {
-        r[k] = block[HEAD_LENGTH * k + at];
-    }
-    r
+    heads_of(block).map(|h| dd_of(of, h))
 }
 
 // The head of slot k.
+#[tactic(auto, using(store_layout::proofs::Blocks::head_of_block))]
 pub fn head_of(block: &[u8; BLOCK_LENGTH], k: usize) -> SlotHead
     requires { k < 9 }
     ensures { result ≡ head_of (decode_block block.now) k }
@@ -110,23 +102,23 @@ pub fn head_of(block: &[u8; BLOCK_LENGTH], k: usize) -> SlotHead
 }
 
 // A report filed in slot k: its head, and the nine elements' raw cells.
-pub fn put_slot(block: &mut [u8; BLOCK_LENGTH], k: usize, h: SlotHead, raw: [OffsetCell; 9])
+pub fn put_slot(block: &mut [u8; BLOCK_LENGTH], k: usize, h: SlotHead, raw: [Cell; 9])
     requires { k < 9 }
-    ensures { decode_block block.new ≡ with_slot k h (map cell raw) (decode_block block.old) }
+    ensures { decode_block block.new ≡ with_slot k h (raw) (decode_block block.old) }
 {
     put_head(block, HEAD_LENGTH * k, h);
-    for e in 0..9 {
-        put_cell(block, Area::Raw, e, k, raw[e]);
+    for (e, &d) in raw.iter().enumerate() {
+        put_cell(block, Area::Raw, e, k, d);
     }
 }
 
-// Another checked column of an element.
+// Another checked column of an element. Over slots, since a column is three arrays and no slice of cells to go over.
 fn put_checked(block: &mut [u8; BLOCK_LENGTH], element: usize, c: Column)
     requires { element < 9 }
     ensures { decode_block block.new ≡ with_column Area.Checked element (cells c) (decode_block block.old) }
 {
     for k in 0..9 {
-        put_cell(block, Area::Checked, element, k, quality::column::at(c, k));
+        put_cell(block, Area::Checked, element, k, c.at(k));
     }
 }
 
@@ -134,8 +126,8 @@ fn put_checked(block: &mut [u8; BLOCK_LENGTH], element: usize, c: Column)
 pub fn put_sheet(block: &mut [u8; BLOCK_LENGTH], columns: [Column; 9])
     ensures { decode_block block.new ≡ with_checked (sheet columns) (decode_block block.old) }
 {
-    for e in 0..9 {
-        put_checked(block, e, columns[e]);
+    for (e, &c) in columns.iter().enumerate() {
+        put_checked(block, e, c);
     }
 }
 
@@ -143,11 +135,8 @@ pub fn put_sheet(block: &mut [u8; BLOCK_LENGTH], columns: [Column; 9])
 pub fn put_copies(block: &mut [u8; BLOCK_LENGTH], copies: Copies)
     ensures { decode_block block.new ≡ with_copies (copy_for copies) (decode_block block.old) }
 {
-    for k in 0..9 {
-        let copy = match copies {
-            Copies::Taken => block[HEAD_LENGTH * k + DD_IN],
-            Copies::Cleared => 0,
-        };
-        block[HEAD_LENGTH * k + COPY_IN] = copy;
+    let heads = heads_of(block);
+    for (k, &h) in heads.iter().enumerate() {
+        block[HEAD_LENGTH * k + COPY_IN] = copy_for(copies, h);
     }
 }

@@ -20,7 +20,7 @@ pub enum Area {
     Checked,
 }
 
-// Where a sheet begins in its block.
+// Where a sheet begins in its block: the one place that tells the two apart.
 fn from(area: Area) -> usize
     ensures { (result ≡ area_from area) × (result ≤ checked_from) }
 {

@@ -1,18 +1,10 @@
--- `store_block::block::heads_of` meets its contract. The loop's invariant: the heads read so far.
-use mathlib.Core.Path.{refl}
+-- `store_block::block::heads_of` meets its contract.
 use borrow.Author.Rules.{rules}
-use Rattle.laws.proofs.Fill.{none, more, whole}
-use Rattle.store_layout.specs.Layout.{decode_block}
+use Rattle.laws.proofs.Calls.{tabled}
+use Rattle.store_layout.specs.Model.{unfiled}
+use Rattle.store_layout.specs.Layout.{head_at, decode_head, decode_block}
 use Rattle.store_block.proofs.block.heads_of.Goals as goal
-
-pub loop-k-init : goal.loop-k-init
-unfolding decode_block
-loop-k-init c = none _ _ 9 _ refl
-
-pub loop-k-preserved : goal.loop-k-preserved
-unfolding decode_block
-loop-k-preserved c = more _ c.loop-k.invariant (search rules) c.head_at.ensures
 
 pub returns : goal.returns
 unfolding decode_block
-returns c = whole c.loop-k.invariant (search rules)
+returns c = tabled _ _ (λ k. decode_head c.args.block.now (head_at k)) 9 (λ k l r q s. search rules) _ unfiled c.from_fn.ensures.items

@@ -10,7 +10,7 @@ use Rattle.store_block.proofs.block.put_sheet.Given as goal
 
 abbrev pub invariant-loop-e : goal.invariant-loop-e
 invariant-loop-e l =
-    Filling (λ s. with_checked s (decode_block l.initial.block)) (column (sheet l.columns)) (column (decode_block l.initial.block).checked) [] l.block l.e
+    Filling (λ s. with_checked s (decode_block l.initial.block)) (column (sheet l.fn.columns)) (column (decode_block l.initial.block).checked) [] l.block l.e
 
 abbrev pub decreases-loop-e : goal.decreases-loop-e
 decreases-loop-e l = 9 - l.e

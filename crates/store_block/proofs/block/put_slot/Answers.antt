@@ -1,12 +1,11 @@
 -- `store_block::block::put_slot` meets its contract. The loop's invariant: what is read of the block has the elements' cells put so far.
 use mathlib.Core.Path.{refl, ◌∙◌, ap}
-use mathlib.Core.List.{[], map}
+use mathlib.Core.List.{[]}
 use native.Mathlib.Nat.{le_refl}
 use borrow.Author.Rules.{rules}
 use lib.ListN.{set}
 use Rattle.laws.specs.Table.{table}
-use Rattle.quality.specs.Cell.{none, slot}
-use Rattle.quality.specs.Coded.{cell}
+use Rattle.quality.specs.Cell.{slot}
 use Rattle.quality.specs.Elements.{column}
 use Rattle.store_layout.specs.Model.{Block}
 use Rattle.store_layout.specs.Updates.{with_slot}
@@ -15,7 +14,6 @@ use Rattle.store_cells.specs.Areas.{with_sheet, with_cell}
 use Rattle.store_cells.proofs.BlockWrites.{head_put}
 use Rattle.store_block.proofs.Filling.{begun, more, whole}
 use Rattle.store_cells.proofs.Sheets.{nine_columns}
-use Rattle.laws.proofs.Maps.{map_at}
 use Rattle.store_block.proofs.block.put_slot.Goals as goal
 
 pub loop-e-init : goal.loop-e-init
@@ -27,7 +25,7 @@ loop-e-preserved c =
     let h = l.invariant in
     let p = c.put_cell in
     more h _ _ (search rules) (search rules)
-    (rw (h.rest _ (le_refl _), map_at cell c.args.raw l.e (record { state = 0; flag = 0; value = 0 }) none (search rules)))
+    (rw (h.rest _ (le_refl _)))
     (p.ensures ∙ ap (with_cell Raw _ _ _) h.reads)
 
 pub returns : goal.returns
@@ -35,5 +33,5 @@ unfolding with_slot
 returns c =
     let a = c.args in
     whole c.loop-e.invariant (search rules)
-    ∙ ap (λ (b : Block). with_sheet Raw (table 9 (λ x. set (column b.raw x) a.k (slot (map cell a.raw) x))) b)
+    ∙ ap (λ (b : Block). with_sheet Raw (table 9 (λ x. set (column b.raw x) a.k (slot a.raw x))) b)
     (head_put a.block.now _ (search rules) a.k (search rules) a.h c.put_head.ensures)

@@ -1,9 +1,8 @@
 -- `store_block::block::put_slot` meets its contract. The loop's invariant: what is read of the block has the elements' cells put so far.
-use mathlib.Core.List.{[], map}
+use mathlib.Core.List.{[]}
 use Prim.Native.Nat.{◌-◌}
 use lib.ListN.{set}
 use Rattle.quality.specs.Cell.{slot}
-use Rattle.quality.specs.Coded.{cell}
 use Rattle.quality.specs.Elements.{column}
 use Rattle.store_layout.specs.Layout.{decode_block}
 use Rattle.store_cells.specs.declared.Area.TheVariants.{Raw}
@@ -13,7 +12,7 @@ use Rattle.store_block.proofs.block.put_slot.Given as goal
 
 abbrev pub invariant-loop-e : goal.invariant-loop-e
 invariant-loop-e l =
-    Filling (λ s. with_sheet Raw s (decode_block l.initial.block)) (λ x. set (column (decode_block l.initial.block).raw x) l.k (slot (map cell l.raw) x)) (column (decode_block l.initial.block).raw) [] l.block l.e
+    Filling (λ s. with_sheet Raw s (decode_block l.initial.block)) (λ x. set (column (decode_block l.initial.block).raw x) l.k (slot l.fn.raw x)) (column (decode_block l.initial.block).raw) [] l.block l.e
 
 abbrev pub decreases-loop-e : goal.decreases-loop-e
 decreases-loop-e l = 9 - l.e

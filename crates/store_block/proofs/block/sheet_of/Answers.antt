@@ -1,22 +1,19 @@
--- `store_block::block::sheet_of` meets its contract. The loop's invariant: the columns read so far.
+-- `store_block::block::sheet_of` meets its contract.
+use mathlib.Core.List.{[]}
 use mathlib.Core.Path.{refl, sym, ◌∙◌}
 use borrow.Author.Rules.{rules}
-use Rattle.laws.proofs.Fill.{none as empty, more, whole}
-use Rattle.laws.proofs.Maps.{map_set}
-use Rattle.store_cells.proofs.Sheets.{column_read, sheet_read}
+use Rattle.laws.proofs.Calls.{tabled_as}
+use Rattle.laws.proofs.Tables.{is_table}
+use Rattle.quality.specs.Coded.{cells}
+use Rattle.quality.specs.Elements.{column}
+use Rattle.store_layout.specs.Layout.{decode_block}
+use Rattle.store_cells.specs.Areas.{sheet_in}
+use Rattle.store_cells.proofs.Sheets.{nine_columns}
 use Rattle.store_block.proofs.block.sheet_of.Goals as goal
-
-pub loop-e-init : goal.loop-e-init
-loop-e-init c = empty _ _ 9 _ refl
-
-pub loop-e-preserved : goal.loop-e-preserved
-loop-e-preserved c =
-    let a = c.args in
-    rw map_set
-    (more _ c.loop-e.invariant (search rules)
-    (c.column_of.ensures ∙ column_read a.area a.block.now c.loop-e.e (search rules)))
 
 pub returns : goal.returns
 returns c =
     let a = c.args in
-    whole c.loop-e.invariant (search rules) ∙ sym (sheet_read a.area a.block.now)
+    let s = sheet_in a.area (decode_block a.block.now) in
+    tabled_as _ _ cells (column s) 9 (λ k l r q s. search rules) _ (record { values = []; states = []; flags = [] }) c.from_fn.ensures.items
+    ∙ sym (is_table 9 (column s) s [] (nine_columns a.area a.block.now) (λ k l. refl))
