@@ -1,9 +1,14 @@
--- `test_quality::cells::column_of` gives a valid column. The loop's invariant: the column is valid so far.
-use Rattle.quality.proofs.Validity.{put_valid}
+-- `test_quality::cells::column_of` gives a valid column: each cell is one that `cell_of` gave.
+use borrow.Author.Rules.{rules}
+use lib.IntN.{pos}
+use Rattle.quality.specs.Cell.{none, slot}
+use Rattle.quality.specs.Valid.{ValidCell}
 use Rattle.test_quality.proofs.cells.column_of.Goals as goal
 
-pub loop-k-preserved : goal.loop-k-preserved
-loop-k-preserved c e = rw c.put-c.ensures (put_valid _ _ _ (c.loop-k.invariant e) (c.cell_of.ensures e))
-
-pub loop-k-init : goal.loop-k-init
-loop-k-init c = c.empty-c.ensures
+pub returns : goal.returns
+returns c e =
+    rw c.of.ensures
+    (record {
+      long = c.map.ensures.items.long;
+      each = λ k l. let w = c.map.ensures.items.at k (pos 0) none l in let valid : ValidCell e (slot c.map.result k) = search rules in valid;
+    })
