@@ -19,8 +19,8 @@ fn put_header(store: &mut [u8], words: [u16; 8])
     requires { header_length ≤ length store.old }
     ensures { store.new ≡ sets store.old 0 (pieces 8 (λ k. word_bytes (get_or words k 0))) }
 {
-    for k in 0..8 {
-        put_word(store, 2 * k, words[k]);
+    for (k, &word) in words.iter().enumerate() {
+        put_word(store, 2 * k, word);
     }
 }
 
@@ -39,12 +39,12 @@ fn put_entries(store: &mut [u8], stations: &[u32], rows: &[u16])
     requires { (length rows.now ≡ length stations.now) × (entry_at (length stations.now) ≤ length store.old) }
     ensures { store.new ≡ sets store.old header_length (pieces (length stations.now) (λ i. long_bytes (get_or stations.now i 0) ++ (word_bytes (get_or rows.now i 0) ++ word_bytes 0))) }
 {
-    for i in 0..stations.len() {
-        put_entry(store, entry_at(i), stations[i], rows[i]);
+    for (i, (&number, &row)) in stations.iter().zip(rows).enumerate() {
+        put_entry(store, entry_at(i), number, row);
     }
 }
 
-// Nine unfiled slot heads.
+// Nine unfiled slot heads. Over their places: what is laid is the same at each, and in no slice to go over.
 fn put_heads(store: &mut [u8], at: usize)
     requires { at + raw_from ≤ length store.old }
     ensures { store.new ≡ sets store.old at (pieces 9 (λ k. encode_head unfiled)) }
@@ -63,7 +63,7 @@ fn put_block(store: &mut [u8], at: usize)
     put_zeros(store, at + RAW_FROM, BLOCK_LENGTH - RAW_FROM);
 }
 
-// The empty blocks of n stations.
+// The empty blocks of n stations, over their places as the heads.
 fn put_blocks(store: &mut [u8], n: usize)
     requires { store_length n ≤ length store.old }
     ensures { store.new ≡ sets store.old (block_at n 0) (pieces n (λ i. encode_block empty_block)) }

@@ -6,7 +6,7 @@ use Rattle.store_numbers.proofs.Laying.{Laying}
 use Rattle.store_fresh.proofs.put_header.Given as goal
 
 abbrev pub invariant-loop-k : goal.invariant-loop-k
-invariant-loop-k l = Laying l.initial.store 0 (λ j. word_bytes (get_or l.words j 0)) 8 l.store l.k
+invariant-loop-k l = Laying l.initial.store 0 (λ j. word_bytes (get_or l.fn.words j 0)) 8 l.store l.k
 
 abbrev pub decreases-loop-k : goal.decreases-loop-k
 decreases-loop-k l = 8 - l.k

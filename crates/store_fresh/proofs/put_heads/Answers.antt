@@ -1,5 +1,6 @@
 -- `store_fresh::put_heads` meets its contract. The loop's invariant: the heads laid so far.
 use mathlib.Core.Path.{refl}
+use native.Mathlib.Omega.{arith}
 use borrow.Author.Rules.{rules}
 use Rattle.store_layout.specs.Layout.{head_length, encode_head}
 use Rattle.store_numbers.proofs.Laying.{none, more, whole}
@@ -15,4 +16,4 @@ loop-k-preserved c = more c.loop-k.invariant head_length (λ j. refl) (search ru
     (rw c.unfiled.ensures at c.put_head.ensures)
 
 pub returns : goal.returns
-returns c = whole c.loop-k.invariant (search rules)
+returns c = whole c.loop-k.invariant (omega arith)
