@@ -6,7 +6,7 @@ ghost use Rattle.capi_numbers.specs.Numbers.{number, filling_number};
 ghost use Rattle.engine_answers.specs.Replies.{reply};
 
 use bulletin::Tally;
-use engine_answers::Cell;
+use quality::column::Cell;
 use refusals::Refusal;
 use vapour::LengthNeeded;
 
@@ -27,7 +27,7 @@ pub fn number_of(answer: Result<(), Refusal>) -> u32
 pub fn cell_numbers(c: Cell) -> [i32; 3]
     ensures { result ≡ pos c.state ∷ pos c.flag ∷ c.value ∷ [] }
 {
-    [i32::from(c.state), i32::from(c.flag), c.value]
+    [i32::from(c.state), i32::from(c.flag), i32::from(c.value)]
 }
 
 // How many reports of a bulletin were accepted and refused.

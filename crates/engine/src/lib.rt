@@ -10,7 +10,7 @@ ghost use Rattle.rules.specs.Step.{step};
 
 use calendar::Date;
 use daily::DayLine;
-use engine_answers::Cell;
+use quality::column::Cell;
 use quality::head::HIGHEST_RANK;
 use refusals::Refusal;
 use store_soundness::find::locate;

@@ -6,7 +6,7 @@ use Rattle.daily.specs.Coded.{Says}
 use Rattle.store_layout.specs.Form.{Form, ours}
 use Rattle.store_layout.specs.Opening.{openable_in, fresh}
 use Rattle.daily.specs.declared.DayLine.{DayLine}
-use Rattle.engine_answers.specs.declared.Cell.{Cell}
+use Rattle.quality.specs.Cell.{Cell}
 use Rattle.refusals.specs.declared.Refusal.{Refusal}
 use Rattle.refusals.specs.Refusals.{number}
 use Rattle.rules.specs.Calls.{Answer, refused, accepted, a_cell, on_refused, on_day}
@@ -19,7 +19,7 @@ reply (Err r) = refused (number r)
 
 -- of cell
 abbrev pub cell_reply : Result Cell Refusal → Answer
-cell_reply (Ok c) = a_cell (record { state = c.state; flag = c.flag; value = c.value })
+cell_reply (Ok c) = a_cell c
 cell_reply (Err r) = refused (number r)
 
 -- of day: the code's line has each mean as a float, the paper's the eightfold sum that it is an eighth of

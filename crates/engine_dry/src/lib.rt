@@ -35,8 +35,8 @@ pub fn filed_duration(k: usize, h: Indicators) -> u8
     h.rain_duration
 }
 
-// And R, in offset binary.
-pub fn filed_rain(k: usize, h: Indicators, rain: Option<u16>) -> Option<u16>
+// And R.
+pub fn filed_rain(k: usize, h: Indicators, rain: Option<i16>) -> Option<i16>
     ensures { codes.meaning result ≡ filed_rain k h (codes.meaning rain) }
 {
     if !is_dry(h) {
@@ -44,6 +44,6 @@ pub fn filed_rain(k: usize, h: Indicators, rain: Option<u16>) -> Option<u16>
     }
     match dry_duration(k) {
         0 => None,
-        _ => Some(32768),
+        _ => Some(0),
     }
 }

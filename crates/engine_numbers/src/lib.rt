@@ -12,12 +12,9 @@ pub fn due(settled: u16) -> Step
     ensures { result ≡ rules.due settled }
 {
     match settled {
-        2 => Step::Range,
-        6 => Step::Range,
-        3 => Step::Internal,
-        7 => Step::Internal,
-        4 => Step::Time,
-        8 => Step::Time,
+        2 | 6 => Step::Range,
+        3 | 7 => Step::Internal,
+        4 | 8 => Step::Time,
         _ => Step::Fill,
     }
 }
@@ -27,16 +24,10 @@ pub fn number_after(step: Step, settled: u16) -> u16
     requires { settled < 10 }
     ensures { result ≡ onward step settled }
 {
-    match step {
-        Step::Range => settled + 1,
-        Step::Internal => settled + 1,
-        Step::Time => settled + 1,
-        Step::Fill => {
-            if settled == 5 {
-                return 1;
-            }
-            0
-        }
+    match (step, settled) {
+        (Step::Fill, 5) => 1,
+        (Step::Fill, _) => 0,
+        _ => settled + 1,
     }
 }
 

@@ -16,6 +16,7 @@ ghost use Rattle.rules.specs.Step.{after};
 
 use engine_block::{begin_block, step_block};
 use engine_numbers::{due, number_after};
+use quality::limits::{climate_of, season_of};
 use refusals::Refusal;
 use store_entries::{block_start, date_of, row_of, set_settled, settled_of};
 use store_numbers::at::BLOCK_LENGTH;
@@ -38,12 +39,11 @@ fn portion_at(store: &mut [u8], index: usize, settled: u16)
     ensures { store.new ≡ encode (with_station index (portion (date_of (decode store.old)) (station_at (decode store.old).stations index)) (decode store.old)) }
 {
     let step = due(settled);
-    let date = date_of(store);
-    let warm = quality::limits::is_warm(date.month);
-    let row = row_of(store, index) as usize;
+    let season = season_of(date_of(store).month);
+    let climate = climate_of(row_of(store, index));
     let a = block_start(store, index);
     let b = a + BLOCK_LENGTH;
-    step_block(&mut store[a..b], step, row, warm);
+    step_block(&mut store[a..b], step, climate, season);
     set_settled(store, index, number_after(step, settled));
 }
 

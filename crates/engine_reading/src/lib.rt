@@ -9,8 +9,7 @@ ghost use Rattle.engine_answers.specs.Replies.{cell_reply, SaysDay};
 ghost use Rattle.rules.specs.Rules.{cell_of, day_of};
 
 use daily::DayLine;
-use engine_answers::Cell;
-use laws::difference;
+use quality::column::Cell;
 use refusals::Refusal;
 use store_block::block::{heads_of, sheet_of};
 use store_cells::{Area, cell_of};
@@ -28,17 +27,8 @@ pub fn give_cell(store: &[u8], index: usize, element: u32, slot: u32) -> Result<
     if settled_of(store, index) != 1 {
         return Err(Refusal::NotSettled);
     }
-    let d = cell_of(
-        block_of(store, index),
-        Area::Checked,
-        element as usize,
-        slot as usize,
-    );
-    Ok(Cell {
-        state: d.state,
-        flag: d.flag,
-        value: difference(d.value as u32, 32768),
-    })
+    let block = block_of(store, index);
+    Ok(cell_of(block, Area::Checked, element as usize, slot as usize))
 }
 
 // The day line of the station at an index.

@@ -1,30 +1,32 @@
 // Settling one station at once: on its own part of the store, lent as `&mut store[a..b]`, and on the settled number beside it.
 #![tactic(auto)]
 
-ghost use Rattle.std.specs.Prelude.{◌≡◌, ◌<◌, length};
+ghost use Rattle.std.specs.Prelude.{◌≡◌, length};
 ghost use Rattle.store_layout.specs.Model.{station_at};
 ghost use Rattle.store_layout.specs.Layout.{block_length, decode_block, decode, encode};
 ghost use Rattle.store_layout.specs.Updates.{with_checked, with_copies, with_station};
+ghost use Rattle.quality.specs.Limits.{row_of, is_warm};
 ghost use Rattle.quality.specs.Settled.{settled};
 ghost use Rattle.quality.specs.Valid.{ValidSheet};
 ghost use Rattle.engine_answers.specs.Good.{StationAt};
 ghost use Rattle.rules.specs.Rules.{directions, settled_station};
 ghost use Rattle.rules.specs.Reaction.{date_of};
 
+use quality::limits::{Climate, Season, climate_of, season_of};
 use store_block::block::{Copies, Dd, as_block, directions, put_copies, put_sheet, sheet_of};
 use store_cells::Area;
 use store_entries::{block_start, date_of, row_of, set_settled};
 use store_numbers::at::BLOCK_LENGTH;
 
 // The checked cells of a block from its raw ones. A settling under way is dropped: its copies of dd are cleared.
-fn settle_block(block: &mut [u8], row: usize, warm: bool)
-    requires { (length block.old ≡ block_length) × (row < 2) × ValidSheet (decode_block block.old).raw }
-    ensures { decode_block block.new ≡ with_copies (λ h. 0) (with_checked (settled row warm (directions (decode_block block.old)) (decode_block block.old).raw) (decode_block block.old)) }
+fn settle_block(block: &mut [u8], climate: Climate, season: Season)
+    requires { (length block.old ≡ block_length) × ValidSheet (decode_block block.old).raw }
+    ensures { decode_block block.new ≡ with_copies (λ h. 0) (with_checked (settled (row_of climate) (is_warm season) (directions (decode_block block.old)) (decode_block block.old).raw) (decode_block block.old)) }
 {
     let block = as_block(block);
     let raw = sheet_of(block, Area::Raw);
     let dd = directions(block, Dd::Own);
-    let checked = quality_steps::settle(row, warm, dd, raw);
+    let checked = quality_steps::settle(climate, season, dd, raw);
     put_sheet(block, checked);
     put_copies(block, Copies::Cleared);
 }
@@ -34,11 +36,10 @@ pub fn settle_at(store: &mut [u8], index: usize)
     requires { StationAt store.old index }
     ensures { store.new ≡ encode (with_station index (settled_station (date_of (decode store.old)) (station_at (decode store.old).stations index)) (decode store.old)) }
 {
-    let date = date_of(store);
-    let warm = quality::limits::is_warm(date.month);
-    let row = row_of(store, index) as usize;
+    let season = season_of(date_of(store).month);
+    let climate = climate_of(row_of(store, index));
     let a = block_start(store, index);
     let b = a + BLOCK_LENGTH;
-    settle_block(&mut store[a..b], row, warm);
+    settle_block(&mut store[a..b], climate, season);
     set_settled(store, index, 1);
 }

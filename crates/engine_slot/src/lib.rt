@@ -1,47 +1,42 @@
 // A report as the slot gets it where it is filed: the slot's head and its nine raw cells. What R a dry station has is `engine_dry`'s matter.
 #![tactic(auto)]
 
-ghost use Rattle.std.specs.Prelude.{◌≡◌, map};
+ghost use Rattle.std.specs.Prelude.{◌≡◌};
 ghost use Rattle.synop_codes.specs.Value as codes;
-ghost use Rattle.quality.specs.Coded.{cell};
 ghost use Rattle.synop_contents.specs.Contents.{listed};
 ghost use Rattle.rules.specs.Rules.{raw_cell, filed_head, filed_cells};
 
 use engine_dry::{filed_duration, filed_rain};
-use quality::column::OffsetCell;
+use quality::column::Cell;
 use quality::head::SlotHead;
 use synop_codes::Moisture;
 use synop_contents::{Indicators, Values};
 
 // A report's value as a raw cell.
-fn raw_cell(v: Option<u16>) -> OffsetCell
-    ensures { cell result ≡ raw_cell (codes.meaning v) }
+fn raw_cell(v: Option<i16>) -> Cell
+    ensures { result ≡ raw_cell (codes.meaning v) }
 {
     match v {
-        None => OffsetCell {
-            state: 0,
-            flag: 0,
-            value: 32768,
-        },
-        Some(x) => OffsetCell {
+        None => Cell::discarded(0),
+        Some(value) => Cell {
             state: 1,
             flag: 0,
-            value: x,
+            value,
         },
     }
 }
 
 // What group 2 gave as D's raw cell: a humidity has state 4.
-fn raw_moisture(m: Option<Moisture>) -> OffsetCell
-    ensures { cell result ≡ raw_cell (codes.moisture m) }
+fn raw_moisture(m: Option<Moisture>) -> Cell
+    ensures { result ≡ raw_cell (codes.moisture m) }
 {
     match m {
         None => raw_cell(None),
         Some(Moisture::DewPoint(x)) => raw_cell(Some(x)),
-        Some(Moisture::Humidity(u)) => OffsetCell {
+        Some(Moisture::Humidity(u)) => Cell {
             state: 4,
             flag: 0,
-            value: 32768 + u as u16,
+            value: i16::from(u),
         },
     }
 }
@@ -61,8 +56,8 @@ pub fn slot_head(k: usize, rank: u8, copy: u8, indicators: Indicators) -> SlotHe
 }
 
 // And its nine raw cells, in the elements' order.
-pub fn raw_cells(k: usize, indicators: Indicators, v: Values) -> [OffsetCell; 9]
-    ensures { map cell result ≡ filed_cells k indicators (listed v) }
+pub fn raw_cells(k: usize, indicators: Indicators, v: Values) -> [Cell; 9]
+    ensures { result ≡ filed_cells k indicators (listed v) }
 {
     [
         raw_cell(v.temperature),

@@ -104,7 +104,7 @@ pub fn head_of(block: &[u8; BLOCK_LENGTH], k: usize) -> SlotHead
 // A report filed in slot k: its head, and the nine elements' raw cells.
 pub fn put_slot(block: &mut [u8; BLOCK_LENGTH], k: usize, h: SlotHead, raw: [Cell; 9])
     requires { k < 9 }
-    ensures { decode_block block.new ≡ with_slot k h (raw) (decode_block block.old) }
+    ensures { decode_block block.new ≡ with_slot k h raw (decode_block block.old) }
 {
     put_head(block, HEAD_LENGTH * k, h);
     for (e, &d) in raw.iter().enumerate() {

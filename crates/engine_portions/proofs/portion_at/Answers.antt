@@ -10,7 +10,7 @@ use Rattle.engine_portions.proofs.portion_at.Goals as goal
 pub step_block-requires : goal.step_block-requires
 step_block-requires c =
     let o = c.requires.station in
-    (search rules, omega (arith, (entry o).row_most, c.row_of-row.ensures), rw (part_block o c.block_start-a.ensures.0) (valid_station o).block.checked)
+    (search rules, rw (part_block o c.block_start-a.ensures.0) (valid_station o).block.checked)
 
 pub number_after-requires : goal.number_after-requires
 number_after-requires c =
@@ -29,15 +29,18 @@ returns c =
     let p = c.block_start-a.ensures.0 in
     let b = c.step_block in
     written o.station p b.new.block b.auto.block c.set_settled.ensures (search rules) (known (λ k. search rules))
-    (portion_as _ _ c.due-step.ensures o.settled_value c.number_after.ensures c.row_of-row.ensures
-    (c.is_warm-warm.ensures ∙ ap limits.warm c.date_of-date.ensures.1)
+    (portion_as _ _ c.due-step.ensures o.settled_value c.number_after.ensures
+    (c.climate_of-climate.ensures ∙ c.row_of.ensures) (c.season_of-season.ensures ∙ ap limits.warm c.date_of.ensures.1)
     (part_block o.station p) b.ensures)
 
-pub date_of-date-requires : goal.date_of-date-requires
-date_of-date-requires c = headed c.requires.station.good
+pub date_of-requires : goal.date_of-requires
+date_of-requires c = headed c.requires.station.good
 
-pub row_of-row-requires : goal.row_of-row-requires
-row_of-row-requires c = at_index c.requires.station
+pub row_of-requires : goal.row_of-requires
+row_of-requires c = at_index c.requires.station
 
 pub block_start-a-requires : goal.block_start-a-requires
 block_start-a-requires c = at_index c.requires.station
+
+pub climate_of-climate-requires : goal.climate_of-climate-requires
+climate_of-climate-requires c = omega (arith, (entry c.requires.station).row_most, c.row_of.ensures)

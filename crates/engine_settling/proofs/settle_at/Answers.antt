@@ -12,7 +12,7 @@ use Rattle.engine_settling.proofs.settle_at.Goals as goal
 pub settle_block-requires : goal.settle_block-requires
 settle_block-requires c =
     let o = c.requires in
-    (search rules, omega (arith, (entry o).row_most, c.row_of-row.ensures), rw (part_block o c.block_start-a.ensures.0) (raw_sheet_valid _ (valid_station o).block.raw))
+    (search rules, rw (part_block o c.block_start-a.ensures.0) (raw_sheet_valid _ (valid_station o).block.raw))
 
 pub set_settled-requires : goal.set_settled-requires
 set_settled-requires c =
@@ -26,15 +26,17 @@ returns c =
     let p = c.block_start-a.ensures.0 in
     let b = c.settle_block in
     written o p b.new.block b.auto.block {v = 1} c.set_settled.ensures (lit< tt) (known (λ k. search rules))
-    (settled_as _ _ c.row_of-row.ensures
-    (c.is_warm-warm.ensures ∙ ap limits.warm c.date_of-date.ensures.1)
+    (settled_as _ _ (c.climate_of-climate.ensures ∙ c.row_of.ensures) (c.season_of-season.ensures ∙ ap limits.warm c.date_of.ensures.1)
     (part_block o p) b.ensures)
 
-pub date_of-date-requires : goal.date_of-date-requires
-date_of-date-requires c = headed c.requires.good
+pub date_of-requires : goal.date_of-requires
+date_of-requires c = headed c.requires.good
 
-pub row_of-row-requires : goal.row_of-row-requires
-row_of-row-requires c = at_index c.requires
+pub row_of-requires : goal.row_of-requires
+row_of-requires c = at_index c.requires
 
 pub block_start-a-requires : goal.block_start-a-requires
 block_start-a-requires c = at_index c.requires
+
+pub climate_of-climate-requires : goal.climate_of-climate-requires
+climate_of-climate-requires c = omega (arith, (entry c.requires).row_most, c.row_of.ensures)
