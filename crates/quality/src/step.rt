@@ -1,5 +1,5 @@
 // The four steps of settling, in their order.
-#[derive(Clone, Copy)]
+#[derive(Clone, Copy, Debug, PartialEq, Eq)]
 pub enum Step {
     Range,
     Internal,

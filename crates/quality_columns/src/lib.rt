@@ -44,7 +44,7 @@ pub fn suspect_at(c: Column, k: usize) -> Column
     r
 }
 
-// The time step on a column, slots 1 to 7. `mends` says whether the element is mended, as the temperature is: a word of the rule's own.
+// The time step on a column, slots 1 to 7. `mends`: as in `quality_time`.
 pub fn time_column(mends: bool, c: Column) -> Column
     requires { Sized (cells c) }
     ensures { cells result ≡ between (time_cell mends) (cells c) }

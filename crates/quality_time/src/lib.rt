@@ -1,4 +1,5 @@
-// The time and fill steps on a cell: a value beside its neighbours in time.
+// The time and fill steps on a cell x: a value between its neighbours in time, a before it and b after it, which are the rule's own three.
+// So is `mends`: whether the element is mended, as the temperature alone is.
 #![tactic(auto)]
 
 ghost use Rattle.std.specs.Prelude.{◌≡◌, ◌≤◌, nat_abs, neg_ℤ};
