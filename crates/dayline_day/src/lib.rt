@@ -1,4 +1,5 @@
 // A day over an open store, for the program `dayline`: its reports read in pieces and filed, then the stations' lines printed.
+// Input, output and piece are handed on side by side: a struct of the three borrows would be taken apart at each call.
 #![tactic(auto)]
 
 ghost use Rattle.dayline_input.specs.Input.{Placed};

@@ -23,6 +23,7 @@ pub fn open(store: &mut [u8], opening: &Opening) -> Result<(), Refusal>
 }
 
 // The reports as they are read: what is kept of the one under way, whether all of it so far is blank, and the reports refused before it.
+// `blank` is a flag, since what is kept is cut at 513 bytes and does not say it.
 #[derive(Drop)]
 pub struct Progress {
     pub kept: ArrayVec<u8, 513>,

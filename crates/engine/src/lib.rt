@@ -1,5 +1,6 @@
 // The calls on a store of one day: open, file, settle, begin, step, cell, day. No call has a `requires`: each answers on every buffer and argument, and
-// its contract gives the whole answer and every byte of the store at exit.
+// its contract gives the whole answer and every byte of the store at exit. The arguments are the calls' own, in the order of the papers. Calls of
+// one station are alike in finding it; each states its own contract, so they are not one.
 #![tactic(auto)]
 
 ghost use Rattle.std.specs.Prelude.{◌≡◌};

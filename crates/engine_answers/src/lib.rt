@@ -1,4 +1,6 @@
 // What the calls answer, in the terms of the papers (specs/), and laws on a store known to be sound (proofs/).
+// The store and a station's index in it are handed on as two parameters with one fact of both, `StationAt`: the store is lent as `&mut`, and
+// its part is lent on, so that a struct of the two would be made anew for each call.
 #![tactic(auto)]
 
 ghost use Rattle.store_layout.specs.Form.{AnyTwoForms};

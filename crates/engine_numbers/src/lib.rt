@@ -1,4 +1,5 @@
-// A station's settled number: the step that is due at it, and what a step and an accepted report make of it.
+// A station's settled number: the step that is due at it, and what a step and an accepted report make of it. It is a number, as the store
+// keeps it, and any may lie in a store that is read.
 #![tactic(auto)]
 
 ghost use Rattle.std.specs.Prelude.{◌≡◌, ◌<◌};
@@ -7,7 +8,7 @@ ghost use Rattle.rules.specs.Rules.{onward};
 
 use quality::step::Step;
 
-// The step that is due at a settled number.
+// The step that is due at a settled number: a table of the paper.
 pub fn due(settled: u16) -> Step
     ensures { result ≡ rules.due settled }
 {

@@ -18,7 +18,7 @@ use store_block::block::{as_block, head_of, put_slot};
 use store_numbers::at::BLOCK_LENGTH;
 use synop_contents::{Indicators, Values};
 
-// What is filed of a report: its rank, its indicators and its values.
+// What is filed of a report: its rank, a number as the store keeps it, its indicators and its values.
 #[derive(Clone, Copy)]
 pub struct Filing {
     pub rank: u8,

@@ -1,6 +1,7 @@
 // The calls for C and Rust: open, file, settle, begin, step, cell, day and bulletin. Each returns 0 or the refusal's number, and writes what it
 // answers into the caller's arrays, which a refusal leaves as they are. Beside them the generator of the vapour table, which needs no store. No call has a
-// `requires`: each answers on every buffer and argument.
+// `requires`: each answers on every buffer and argument. The arguments are those that C hands over, a date as three numbers, stations and rows
+// as two arrays; the calls that give a number alone are alike but for the call of `engine`, and are C's names for it.
 #![tactic(auto)]
 
 ghost use Rattle.std.specs.Prelude.{◌≡◌};
