@@ -16,13 +16,7 @@ pub fn find(store: &[u8], station: u32) -> Option<usize>
     ensures { result ≡ placed (index_in (numbers (decode store.now)) station) }
 {
     let n = word_at(store, COUNT_AT) as usize;
-    // A `for`: of `(0..n).find(..)` the proof did not close.
-    for i in 0..n {
-        if long_at(store, entry_at(i)) == station {
-            return Some(i);
-        }
-    }
-    None
+    (0..n).find(|&i| long_at(store, entry_at(i)) == station)
 }
 
 // Soundness and search in one answer: refused 9, 6.

@@ -27,7 +27,7 @@ fn is_station(store: &[u8], n: usize, i: usize, last: u32) -> bool
     is_block(store, block_at(n, i), settled)
 }
 
-// The n stations, each with a number above the one before.
+// The n stations, each with a number above the one before: a loop, since each turn leaves its number to the next.
 pub fn are_stations(store: &[u8], n: usize) -> bool
     requires { store_length n ≤ length store.now }
     ensures { result ≡ (all (sound_station store.now n) n && all (sound_order store.now) (n - 1)) }

@@ -1,19 +1,15 @@
--- `store_soundness::find::find` meets its contract. The loop's invariant: no station passed has the number.
-use mathlib.Core.Path.{sym, ◌∙◌, ap}
+-- `store_soundness::find::find` meets its contract.
+use mathlib.Core.Path.{refl}
 use native.Mathlib.Omega.{arith}
 use borrow.Author.Rules.{rules}
-use Rattle.store_soundness.specs.Located.{placed}
-use Rattle.store_soundness.proofs.Indices.{found, missing}
+use Rattle.std.proofs.lemmas.Iterator.{YieldsList-from_range, first_from_find}
+use Rattle.store_soundness.proofs.Indices.{Here, Other, searched}
 use Rattle.store_soundness.proofs.find.find.Goals as goal
-
-pub returns-then-long_at-station : goal.returns-then-long_at-station
-returns-then-long_at-station c =
-    let a = c.args in
-    let l = c.loop-i in
-    ap placed
-    (sym (found a.store.now a.station _ c.word_at-n.ensures l.i (search rules) l.invariant.1 (sym (rw c.entry_at.ensures at c.long_at.ensures) ∙ c.if-long_at-station.true)))
 
 pub returns : goal.returns
 returns c =
     let a = c.args in
-    ap placed (sym (missing a.store.now a.station _ c.word_at-n.ensures (λ k l. c.loop-i.invariant.1 k (omega arith))))
+    let n = c.word_at-n.result in
+    let e = c.word_at-n.ensures in
+    searched a.store.now a.station n e c.find.result
+    (first_from_find _ _ c.find.result (Here a.store.now a.station n e) (Other a.store.now a.station n e) c.find.ensures.ran (YieldsList-from_range 0 n n refl (omega arith)) (λ x q k. search rules) (λ x q k. search rules))
