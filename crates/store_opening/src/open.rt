@@ -1,4 +1,4 @@
-// Opening a store: what is refused, and else a fresh store in its place.
+// Opening a store: what is refused, and else a fresh store in its place. The stations' numbers and rows are two slices, as C hands them over.
 ghost use Rattle.std.specs.Prelude.{◌≡◌, ◌&&◌, leb, ltb, length};
 ghost use Rattle.store_layout.specs.Opening.{openable};
 ghost use Rattle.store_opening.specs.Opened.{listed, Opened};
