@@ -16,7 +16,7 @@ fn mean_float(mean: Mean) -> f64
     }
 }
 
-// A mean's kind: 0 absent, 1 read, 2 mended.
+// A mean's kind: 0 absent, 1 read, 2 mended. Each arm is a line of the table of numbers that C is given.
 fn mean_kind(mean: Mean) -> i32
     ensures { result ≡ kind mean }
 {

@@ -20,12 +20,23 @@ use lib.Signed.{lt_z, ◌<ℤ◌, ◌≤ℤ◌, lt_z_yes, lt_z_no, <ℤ-≤ℤ_t
 use Rattle.laws.proofs.Bools.{Known, is_true, is_false, known, and_true, and_left, and_right, and_false_left, or_true_right}
 use Rattle.laws.proofs.Offset.{side}
 use Rattle.laws.proofs.Tables.{all_at, all_from}
-use Rattle.quality.specs.Cell.{Cell, missing, slot}
-use Rattle.daily.specs.declared.extremes.Tie.{Tie}
-use Rattle.daily.specs.declared.extremes.Tie.TheVariants.{Earliest, Latest}
-use Rattle.daily.specs.Extremes.{on_ties, utmost}
-use Rattle.daily.specs.Parts.{beyond, outdoes, ahead}
+use Rattle.quality.specs.Cell.{Cell, missing, there, slot}
+use Rattle.daily.specs.Extremes.{Tie, Earliest, Latest, on_ties, utmost}
 use Rattle.daily.proofs.Ties.{Alone, on_ties_none, on_ties_some}
+
+-- ---- what counts before what
+-- x is beyond y: warmer, or else colder
+abbrev pub beyond : Bool → ℤ → ℤ → Bool
+beyond warmer x y = cond warmer (lt_z y x) (lt_z x y)
+
+-- x, of a later slot than y, counts before it: x is beyond y or, where the latest counts on ties, y is not beyond x
+abbrev pub outdoes : Tie → Bool → ℤ → ℤ → Bool
+outdoes Earliest warmer x y = beyond warmer x y
+outdoes Latest warmer x y = not (beyond warmer y x)
+
+-- the same of cells: x is there, and y is missing or outdone
+abbrev pub ahead : Tie → Bool → Cell → Cell → Bool
+ahead tie warmer x y = there x && (missing y || outdoes tie warmer x.value y.value)
 
 -- ---- the order of values
 below : {x y : ℤ} → lt_z x y ≡ true → x <ℤ y
@@ -34,7 +45,7 @@ below e = lt_z_yes (subst T (sym e) tt)
 above : {x y : ℤ} → lt_z x y ≡ false → y ≤ℤ x
 above e = lt_z_no (subst (λ (b : Bool). T (not b)) (sym e) tt)
 
-lt_asym : (x y : ℤ) → lt_z x y ≡ true → lt_z y x ≡ false
+pub lt_asym : (x y : ℤ) → lt_z x y ≡ true → lt_z y x ≡ false
 lt_asym (pos a) (pos b) h = le-ltb b a (omega (arith, ltb-true a b h))
 lt_asym (pos a) (negsuc b) h = absurd (false≢true h)
 lt_asym (negsuc a) (pos b) h = refl
@@ -57,11 +68,11 @@ beyond_past true x y z h g = elim (known (lt_z z x)) [ is_true e ↦ e | is_fals
 beyond_past false x y z h g = elim (known (lt_z x z)) [ is_true e ↦ e | is_false e ↦ absurd (never x y z h g e) ]
 
 -- ---- what outdoes what
-not_false : (b : Bool) → not b ≡ true → b ≡ false
+pub not_false : (b : Bool) → not b ≡ true → b ≡ false
 not_false true e = absurd (false≢true e)
 not_false false e = refl
 
-not_true : (b : Bool) → not b ≡ false → b ≡ true
+pub not_true : (b : Bool) → not b ≡ false → b ≡ true
 not_true true e = refl
 not_true false e = absurd (true≢false e)
 

@@ -1,8 +1,7 @@
--- Document 01, "The day line", in the paper's order; then what the code's answers and its inner functions' say.
+-- Document 01, "The day line", in the paper's order; then what the code's answers say.
 pub mod Means
 pub mod Rain
 pub mod Extremes
 pub mod Counts
 pub mod Line
 pub mod Coded
-pub mod Parts

@@ -5,7 +5,7 @@
 pub mod counts;
 pub mod extremes;
 
-// A mean over slots 0 to 7: absent, fully read or partly mended.
+// A mean over slots 0 to 7: absent, fully read or partly mended. Three cases of the paper; an `Option` of two would nest two matches at each use.
 #[derive(Clone, Copy)]
 pub enum Mean {
     Absent,

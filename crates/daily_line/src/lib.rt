@@ -8,7 +8,7 @@ ghost use Rattle.daily.specs.Line.{day_line};
 
 use daily::DayLine;
 use daily::counts::count;
-use daily::extremes::{Tie, extreme};
+use daily::extremes::{coldest, warmest};
 use daily_means::mean;
 use daily_rain::rain_total;
 use daily_vapours::vapour_column;
@@ -34,11 +34,11 @@ pub fn day_line(checked: [Column; 9], heads: [SlotHead; 9]) -> DayLine
         cloud: mean(c),
         vapour: mean(vapour_column(t, d)),
         rain: rain_total(heads, r),
-        warmest: extreme(Tie::Latest, true, t),
-        coldest: extreme(Tie::Earliest, false, t),
-        read: count(checked, 1),
-        corrected: count(checked, 2),
-        filled: count(checked, 3),
-        missing: count(checked, 0),
+        warmest: warmest(t),
+        coldest: coldest(t),
+        read: count(&checked, 1),
+        corrected: count(&checked, 2),
+        filled: count(&checked, 3),
+        missing: count(&checked, 0),
     }
 }

@@ -1,48 +1,44 @@
--- A column's slots 0 to 7 gone through once, and the mean from what that gives.
+-- The mean from what its parts give.
 -- Assumes nothing.
-use mathlib.Core.Path.{◌≡◌, refl, sym, ◌∙◌, ap, ap₂}
-use mathlib.Core.Bool.{Bool, true, false, not, cond, ◌&&◌}
+use mathlib.Core.Path.{◌≡◌, refl, sym, ◌∙◌, ap}
+use mathlib.Core.Bool.{Bool, true, false, cond, true≢false}
 use mathlib.Core.List.{List}
-use Prim.Native.Nat.{ℕ, ◌+◌, ◌*◌, ◌≤◌}
+use Prim.Native.Nat.{ℕ, ◌+◌, ◌<◌}
 use native.Mathlib.Numerals.{add-one}
 use native.Mathlib.Omega.{arith}
-use lib.IntN.{ℤ, sub_ℕ, ◌+ℤ◌}
+use lib.IntN.{ℤ, pos, ◌+ℤ◌}
+use lib.ListN.{get_or}
 use lib.Ieee.{Float}
+use Rattle.std.proofs.Common.{zero-le}
+use Rattle.std.specs.Bool.{MatchBool}
+use Rattle.std.specs.List.{AllWithin, HoldsAt, range_with_len}
+use Rattle.std.proofs.lemmas.List.FromFn.{get_or-range_with_len}
 use Rattle.laws.specs.All.{all}
-use Rattle.laws.specs.Offset.{value}
-use Rattle.laws.proofs.Offset.{sub_add}
-use Rattle.laws.proofs.Tables.{all_more}
-use Rattle.quality.specs.Cell.{Cell, slot}
-use Rattle.quality.specs.Steps.{passed_over}
+use Rattle.laws.proofs.Bools.{is_true, is_false, known}
+use Rattle.laws.proofs.Tables.{all_at, all_from}
+use Rattle.quality.specs.declared.column.Column.{Column}
+use Rattle.quality.specs.Cell.{Cell}
+use Rattle.quality.specs.Coded.{cells}
+use Rattle.quality.proofs.Columns.{slot_cells}
 use Rattle.daily.specs.declared.Mean.TheVariants.{Absent, Read, Mended}
-use Rattle.daily.specs.Means.{sum, eightfold, repaired, average}
+use Rattle.daily.specs.Means.{sum, eightfold, average}
 use Rattle.daily.specs.Coded.{eighth, IsEighth, SaysMean}
-use Rattle.daily_means.specs.Parts.{Tallied, complete, plain}
+use Rattle.daily_means.specs.Parts.{complete, plain}
 
-module _ (xs : List Cell) (k : ℕ) (d : Cell) (e : d ≡ slot xs k) where
-  -- one more value, in offset binary
-  pub sum_turn : (n v : ℕ) → d.value ≡ value v → sub_ℕ n (32768 * k) ≡ sum xs k → sub_ℕ (n + v) (32768 * (k + 1)) ≡ sum xs (k + 1)
-  unfolding sum
-  sum_turn n v g h =
-      let o : 32768 * (k + 1) ≡ 32768 * k + 32768 = omega arith in
-      rw (o, add-one) (sym (sub_add n v (32768 * k) 32768) ∙ ap₂ ◌+ℤ◌ h (sym g ∙ ap (λ (c : Cell). c.value) e))
+-- what `all` over the slots 0 to 7 answers
+pub all_slots : (p : ℕ → Bool) (r : Bool)
+    → MatchBool r (AllWithin (λ k. p k ≡ true) (range_with_len 0 8) 0 8) ((k : ℕ) × (k < 8) × HoldsAt (λ k. p k ≡ false) (range_with_len 0 8) k) → r ≡ all p 8
+all_slots p true h =
+    sym
+    (all_from p 8 (λ i l. let e : get_or (range_with_len 0 8) i 0 ≡ i = omega (arith, get_or-range_with_len 0 8 i 0 l) in rw e at (h i 0 zero-le l)))
+all_slots p false (k, l, h) =
+    let e : get_or (range_with_len 0 8) k 0 ≡ k = omega (arith, get_or-range_with_len 0 8 k 0 l) in
+    elim (known (all p 8)) [ is_true a ↦ absurd (true≢false (sym (all_at p 8 a k l) ∙ rw e at (h 0))) | is_false a ↦ sym a ]
 
-  -- one more test
-  pub all_turn : (test : Cell → Bool) (b : Bool) → b ≡ all (λ j. test (slot xs j)) k → (b && test d) ≡ all (λ j. test (slot xs j)) (k + 1)
-  all_turn test b h = rw all_more (ap₂ ◌&&◌ h (ap test e))
-
--- what going through the first k slots has given
-pub record Running (xs : List Cell) (n : ℕ) (all_there all_plain : Bool) (k : ℕ) : Type 0 where
-  pub upto : k ≤ 8
-  pub most : n ≤ 65535 * k
-  pub sum : sub_ℕ n (32768 * k) ≡ sum xs k
-  pub complete : all_there ≡ all (λ j. not (passed_over (slot xs j))) k
-  pub plain : all_plain ≡ all (λ j. not (repaired (slot xs j))) k
-
--- all eight
-pub done : {xs : List Cell} {n : ℕ} {all_there all_plain : Bool} → Running xs n all_there all_plain 8
-    → Tallied (record { sum = n; complete = all_there; plain = all_plain }) xs
-done r = record { sum = r.sum; most = r.most; complete = r.complete; plain = r.plain }
+-- one more value
+pub sum_turn : (c : Column) (k : ℕ) (n : ℤ) → k < 9 → n ≡ sum (cells c) k → n +ℤ get_or c.values k (pos 0) ≡ sum (cells c) (k + 1)
+unfolding sum
+sum_turn c k n l h = rw (add-one, ← slot_cells c k l) (ap (λ (z : ℤ). z +ℤ get_or c.values k (pos 0)) h)
 
 -- the mean of a column
 module _ (xs : List Cell) where

@@ -4,42 +4,36 @@
 ghost use Rattle.std.specs.Prelude.{◌≡◌};
 ghost use Rattle.quality.specs.Coded.{cells};
 ghost use Rattle.daily.specs.Coded.{eighth, IsEighth, SaysMean};
-ghost use Rattle.daily.specs.Means.{average};
-ghost use Rattle.daily_means.specs.Parts.{Tallied};
+ghost use Rattle.daily.specs.Means.{average, eightfold};
+ghost use Rattle.daily_means.specs.Parts.{complete, plain};
 
 use daily::Mean;
-use laws::difference;
-use quality::column::{Column, at, passed_over};
+use quality::column::Column;
 
-// The slots 0 to 7 of a column: their values added, in offset binary; that none is missing or a humidity; that none is corrected or filled.
-#[derive(Clone, Copy)]
-struct Tally {
-    sum: u32,
-    complete: bool,
-    plain: bool,
+// None of the slots 0 to 7 is missing or has a humidity.
+fn complete(c: Column) -> bool
+    ensures { result ≡ complete (cells c) }
+{
+    (0..8).all(|k| !c.at(k).passed_over())
 }
 
-// Eight times the offset of a value, 32768.
-const OFFSETS: u32 = 262144;
-
-fn tally_of(c: Column) -> Tally
-    ensures { Tallied result (cells c) }
+// None of them is corrected or filled.
+fn plain(c: Column) -> bool
+    ensures { result ≡ plain (cells c) }
 {
-    let mut sum: u32 = 0;
-    let mut complete = true;
-    let mut plain = true;
-    for k in 0..8 {
-        let d = at(c, k);
-        let state = d.state;
-        sum += d.value as u32;
-        complete = complete & !passed_over(d);
-        plain = plain & !((state == 2) | (state == 3));
+    (0..8).all(|k| !matches!(c.at(k).state, 2 | 3))
+}
+
+// Their values added. A loop, since an iterator's sum of signed numbers is not known to fit.
+fn eightfold(c: Column) -> i32
+    ensures { result ≡ eightfold (cells c) }
+{
+    let values = c.values;
+    let mut sum = 0;
+    for value in &values[..8] {
+        sum += i32::from(*value);
     }
-    Tally {
-        sum: sum,
-        complete: complete,
-        plain: plain,
-    }
+    sum
 }
 
 // The eightfold sum times 0.125: exactly an eighth of it.
@@ -53,12 +47,11 @@ fn eighth(sum: i32) -> f64
 pub fn mean(c: Column) -> Mean
     ensures { SaysMean result (average (cells c)) }
 {
-    let t = tally_of(c);
-    if !t.complete {
+    if !complete(c) {
         return Mean::Absent;
     }
-    let x = eighth(difference(t.sum, OFFSETS));
-    if t.plain {
+    let x = eighth(eightfold(c));
+    if plain(c) {
         return Mean::Read(x);
     }
     Mean::Mended(x)

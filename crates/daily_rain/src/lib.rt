@@ -6,8 +6,7 @@ ghost use Rattle.quality.specs.Coded.{cells};
 ghost use Rattle.daily_rain.specs.Parts.{Small};
 ghost use Rattle.daily.specs.Rain as Rule;
 
-use laws::difference;
-use quality::column::{Column, at, is_missing};
+use quality::column::Column;
 use quality::head::SlotHead;
 
 // The head of slot k: its iR and tR.
@@ -24,11 +23,11 @@ fn amount_at(r: Column, k: usize) -> Option<i32>
     ensures amount { result ≡ Rule.amount (cells r) k }
     ensures small { Small 1 result }
 {
-    let cell = at(r, k);
-    if is_missing(cell) {
+    let cell = r.at(k);
+    if cell.is_missing() {
         return None;
     }
-    Some(difference(cell.value as u32, 32768))
+    Some(i32::from(cell.value))
 }
 
 // Two amounts added: missing where one is.

@@ -1,5 +1,4 @@
--- The vapour pressure at a dew point, the table of it as it is kept, what the lookup's answer says, and what the generator leaves.
+-- The vapour pressure at a dew point, the table of it as it is kept, and what the generator leaves.
 pub mod Vapour
 pub mod Kept
-pub mod Answer
 pub mod Generator

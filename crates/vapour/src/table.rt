@@ -1,20 +1,84 @@
 // Document 02, S-4: the table of vapour pressures, 1001 entries in hundredths of hPa, one for each dew point from −500 to 500
 // tenths of a degree. It is kept as a whole entry every sixteen places and, between these, the difference of each entry from the
 // one before it. The entries are those that the generator fills a slice with; tools/vapour_table.py prints them by itself.
-ghost use Rattle.std.specs.Prelude.{◌≡◌, ◌<◌};
+ghost use Rattle.std.specs.Prelude.{◌≡◌, ◌<◌, length, sum};
 ghost use Rattle.std.proofs.Math.IntN.{sub_ℕ};
 ghost use Rattle.vapour.specs.Vapour.{places, entry};
+ghost use Rattle.vapour.specs.Vapour as vapour;
 ghost use Rattle.vapour.specs.Generator.{AsFilled};
 ghost use Rattle.vapour.specs.Kept.{Kept};
 
-// How many entries there are.
+// How many entries there are. An index below it stays a number: a type of its own would be unpacked at each of its four uses.
 pub const PLACES: usize = 1001;
 
 // A whole entry stands at every index that is a multiple of this.
 const SPACING: usize = 16;
 
+// The lowest and the highest dew point of the table.
+const LOWEST: i16 = -500;
+
+const HIGHEST: i16 = 500;
+
+// The two constants that the table is kept in, and that they are right.
+#[derive(Clone, Copy)]
+pub struct Table {
+    whole: &'static [u16],
+    differences: &'static [u8],
+    ghost kept: { Kept whole.now differences.now },
+}
+
+impl Table {
+    pub fn new() -> Table {
+        Table {
+            whole: &WHOLE,
+            differences: &DIFFERENCES,
+        }
+    }
+
+    // The entry at an index, that of the dew point index − 500: the last whole entry up to there, with the differences after it.
+    fn at(&self, index: usize) -> u16
+        requires { index < places }
+        ensures { result ≡ entry (sub_ℕ index 500) }
+    {
+        let block = index / SPACING;
+        let first = block * (SPACING - 1);
+        let differences = self.differences;
+        self.whole[block] + total(&differences[first..first + index % SPACING])
+    }
+
+    // The vapour pressure at a dew point.
+    #[tactic(auto, unfolding(crate::specs::Vapour::pressure))]
+    pub fn pressure(&self, dew_point: i16) -> Option<u16>
+        ensures { result ≡ vapour.pressure dew_point }
+    {
+        if dew_point < LOWEST || dew_point > HIGHEST {
+            return None;
+        }
+        Some(self.at(usize::from(dew_point.abs_diff(LOWEST))))
+    }
+}
+
+// The differences between two whole entries, or some of them, added.
+fn total(differences: &[u8]) -> u16
+    requires { length differences.now < SPACING }
+    ensures { result ≡ sum differences.now }
+{
+    differences
+        .iter()
+        .map(|difference| u16::from(*difference))
+        .sum()
+}
+
+// Document 02, S-1 and S-4: the filled slice equals the lookup, entry by entry. The contract is the theorem.
+pub fn entry_as_filled(index: u16) -> Option<u16>
+    requires { index < places }
+    ensures { AsFilled index result }
+{
+    crate::pressures([LOWEST + index as i16; 9])[0]
+}
+
 // The whole entries. A comment gives the dew point of each.
-pub const WHOLE: [u16; 63] = [
+static WHOLE: [u16; 63] = [
     6, // -500
     8, // -484
     9, // -468
@@ -81,7 +145,7 @@ pub const WHOLE: [u16; 63] = [
 ];
 
 // The differences. A comment names the whole entry that a difference comes right after.
-pub const DIFFERENCES: [u8; 938] = [
+static DIFFERENCES: [u8; 938] = [
     0, // after -500
     1, 0, 0, 0, 0, 0, 0, 0, 0, 0, 0, 0, 0, 1, 0, // after -484
     0, 0, 0, 0, 0, 0, 0, 0, 1, 0, 0, 0, 0, 0, 0, // after -468
@@ -147,25 +211,3 @@ pub const DIFFERENCES: [u8; 938] = [
     56, 57, 56, 57, 58, 57, 58, 58, 58, 59, 58, 59, 60, 59, 60, // after 492
     60, 61, 61, 61, 61, 62, 62,
 ];
-
-// The entry at an index, that of the dew point index − 500: the last whole entry up to there, with the differences after it.
-pub fn at(whole: &[u16], differences: &[u8], index: usize) -> u16
-    requires { (Kept whole.now differences.now) × (index < places) }
-    ensures { result ≡ entry (sub_ℕ index 500) }
-{
-    let block = index / SPACING;
-    let first = block * (SPACING - 1);
-    let mut entry = whole[block];
-    for difference in &differences[first..first + index % SPACING] {
-        entry += u16::from(*difference);
-    }
-    entry
-}
-
-// Document 02, S-1 and S-4: the filled slice equals the lookup, entry by entry. The contract is the theorem.
-pub fn entry_as_filled(index: u16) -> Option<u16>
-    requires { index < places }
-    ensures { AsFilled index result }
-{
-    crate::pressures([crate::LOWEST + index; 9])[0]
-}

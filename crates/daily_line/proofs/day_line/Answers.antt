@@ -19,7 +19,7 @@ vapour_column-requires c =
     subst (ValidColumn dew_point) (sym (col c.args.checked long 1 _ (lit< tt))) (c.requires.each 1 (lit< tt))
 
 pub returns : goal.returns
-unfolding day_line warmest coldest
+unfolding day_line
 returns c =
     let a = c.args in
     let long : length a.checked ≡ 9 = search rules in
@@ -31,8 +31,8 @@ returns c =
       cloud = says_column a.checked long 4 _ (lit< tt) c.mean-5.ensures;
       vapour = says_vapour a.checked long 0 1 _ _ _ (lit< tt) (lit< tt) c.vapour_column.ensures c.mean-6.ensures;
       rain = c.rain_total.ensures ∙ ap (λ (xs : List Cell). rain_total a.heads xs) (col a.checked long 6 _ (lit< tt));
-      warmest = c.extreme.ensures ∙ ap (λ (xs : List Cell). warmest xs) (col a.checked long 0 _ (lit< tt));
-      coldest = c.extreme-2.ensures ∙ ap (λ (xs : List Cell). coldest xs) (col a.checked long 0 _ (lit< tt));
+      warmest = c.warmest.ensures ∙ ap (λ (xs : List Cell). warmest xs) (col a.checked long 0 _ (lit< tt));
+      coldest = c.coldest.ensures ∙ ap (λ (xs : List Cell). coldest xs) (col a.checked long 0 _ (lit< tt));
       read = c.count.ensures;
       corrected = c.count-2.ensures;
       filled = c.count-3.ensures;

@@ -1,30 +1,25 @@
 -- `daily_means::mean` meets its contract.
 use mathlib.Core.Bool.{false, true}
-use mathlib.Core.Path.{◌∙◌}
-use borrow.Author.Rules.{rules}
-use borrow.Author.Tests.{not-false, not-true}
+use mir.Syntax.{w32}
+use mir.Val.{SFits}
+use Rattle.std.proofs.Common.{rules}
+use Rattle.std.proofs.lemmas.Int.{to_z-of_z}
 use Rattle.laws.proofs.Bools.{via}
 use Rattle.quality.specs.Coded.{cells}
-use Rattle.laws.proofs.Signed.{back}
 use Rattle.daily_means.proofs.Sums.{says_absent, says_sum}
 use Rattle.daily_means.proofs.mean.Goals as goal
 
-pub returns-then-not-t : goal.returns-then-not-t
-returns-then-not-t c =
-    says_absent (cells c.args.c) (via c.tally_of-t.ensures.complete (not-true _ c.if-not-t.true))
+pub returns-then-not-complete : goal.returns-then-not-complete
+returns-then-not-complete c = says_absent (cells c.args.c) (via c.complete.ensures c.if-not-complete.true)
 
-pub returns-then-t : goal.returns-then-t
-returns-then-t c =
-    says_sum (cells c.args.c) true _ c.eighth-x.result
-    (via c.tally_of-t.ensures.complete (not-false _ c.if-not-t.false))
-    (via c.tally_of-t.ensures.plain c.if-t.true)
-    (back c.tally_of-t.result.sum 262144 (search rules) (search rules) c.difference.result c.difference.ensures ∙ c.tally_of-t.ensures.sum)
-    c.eighth-x.ensures.rule c.eighth-x.ensures.exact
+pub returns-then-plain : goal.returns-then-plain
+returns-then-plain c =
+    let f : SFits w32 c.eightfold.result = search rules in
+    says_sum (cells c.args.c) true _ c.eighth-x.result (via c.complete.ensures c.if-not-complete.false) (via c.plain.ensures c.if-plain.true)
+    c.eightfold.ensures (simp to_z-of_z at c.eighth-x.ensures.rule) (simp to_z-of_z at c.eighth-x.ensures.exact)
 
 pub returns : goal.returns
 returns c =
-    says_sum (cells c.args.c) false _ c.eighth-x.result
-    (via c.tally_of-t.ensures.complete (not-false _ c.if-not-t.false))
-    (via c.tally_of-t.ensures.plain c.if-t.false)
-    (back c.tally_of-t.result.sum 262144 (search rules) (search rules) c.difference.result c.difference.ensures ∙ c.tally_of-t.ensures.sum)
-    c.eighth-x.ensures.rule c.eighth-x.ensures.exact
+    let f : SFits w32 c.eightfold.result = search rules in
+    says_sum (cells c.args.c) false _ c.eighth-x.result (via c.complete.ensures c.if-not-complete.false) (via c.plain.ensures c.if-plain.false)
+    c.eightfold.ensures (simp to_z-of_z at c.eighth-x.ensures.rule) (simp to_z-of_z at c.eighth-x.ensures.exact)

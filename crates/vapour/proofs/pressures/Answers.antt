@@ -1,8 +1,9 @@
--- `vapour::pressures` meets its contract. The first `refl` is the test of the rule at every number of the two constants, which antt
--- computes here.
-use mathlib.Core.Path.{refl}
-use Rattle.vapour.proofs.Rule.{all_right}
+-- `vapour::pressures` meets its contract.
+use Rattle.std.proofs.Common.{rules}
+use Rattle.std.specs.Prelude.{pos, None}
+use Rattle.laws.proofs.Calls.{mapped}
+use Rattle.vapour.specs.Vapour.{pressure}
 use Rattle.vapour.proofs.pressures.Goals as goal
 
-pub pressures_in-requires : goal.pressures_in-requires
-pressures_in-requires c = all_right _ _ refl refl refl
+pub returns : goal.returns
+returns c = mapped _ _ pressure (λ x r q k. search rules) c.args.dew_points c.map.result (pos 0) None 9 (search rules) c.map.ensures.items

@@ -1,27 +1,28 @@
 -- `daily::counts::count` meets its contract.
-use mathlib.Core.List.{List}
-use mathlib.Core.Path.{◌∙◌, ◌≡◌, ap, refl, sym}
+use mathlib.Core.Path.{◌∙◌}
+use Prim.Native.Nat.{◌^◌}
+use Rattle.std.proofs.Common.{rules}
+use Rattle.std.proofs.lemmas.Iterator.{YieldsList-from_slice, YieldsList-from_map}
+use Rattle.std.proofs.lemmas.Iterator.Consumers.{YieldsList-at, sum_by_from_yields_List, fits_by_from_yields_list}
 use native.Mathlib.Omega.{arith}
-use borrow.Author.Rules.{rules}
-use Rattle.quality.proofs.Sheets.{column_sheet}
-use Rattle.quality.specs.Cell.{Cell}
-use Rattle.quality.specs.Coded.{sheet}
-use Rattle.daily.specs.Counts.{in_column, in_sheet}
-use Rattle.daily.proofs.Counting.{column_turn}
+use Rattle.quality.specs.declared.column.Column.{Column}
+use Rattle.quality.specs.Coded.{cells, sheet}
+use Rattle.daily.specs.Counts.{in_column}
+use Rattle.daily.proofs.Counting.{sheet_count, count_most}
 use Rattle.daily.proofs.counts.count.Goals as goal
 
-pub loop-e-init : goal.loop-e-init
-unfolding in_sheet
-loop-e-init c = (search rules, refl, search rules)
-
-pub loop-e-preserved : goal.loop-e-preserved
-loop-e-preserved c =
-    let l = c in
-    let a = l.args in
-    (search rules, column_turn a.state l.loop-e.e l.loop-e.n c.in_column-n.result (sheet a.s) l.loop-e.invariant.1 (c.in_column-n.ensures.0 ∙ ap (λ (x : List Cell). in_column a.state x 9) (sym (column_sheet a.s l.loop-e.e _ (search rules)))), search rules)
+pub sum-requires-clause-fits : goal.sum-requires-clause-fits
+sum-requires-clause-fits c =
+    let s = c.args.state in
+    let h = λ (d : Column). in_column s (cells d) 9 in
+    fits_by_from_yields_list h c.args.s.now c.map.result (2 ^ 32)
+    (YieldsList-from_map _ h (YieldsList-at c.map.ensures.source (YieldsList-from_slice c.args.s.now c.iter.ensures.rest)) c.map.ensures.closure (λ x r q k. search rules))
+    (omega (arith, sheet_count s c.args.s.now (search rules), count_most s (sheet c.args.s.now)))
 
 pub returns : goal.returns
 returns c =
-    let l = c.loop-e in
-    let e : l.e ≡ 9 = omega arith in
-    rw e at l.invariant.1
+    let s = c.args.state in
+    let h = λ (d : Column). in_column s (cells d) 9 in
+    sum_by_from_yields_List h c.args.s.now c.map.result c.sum.result c.sum.ensures.ran
+    (YieldsList-from_map _ h (YieldsList-at c.map.ensures.source (YieldsList-from_slice c.args.s.now c.iter.ensures.rest)) c.map.ensures.closure (λ x r q k. search rules))
+    ∙ sheet_count s c.args.s.now (search rules)

@@ -1,24 +1,22 @@
 -- `daily::counts::in_column` meets its contract.
-use mathlib.Core.Path.{◌≡◌, refl}
+use mathlib.Core.Path.{◌≡◌, ◌∙◌}
+use Rattle.std.proofs.Common.{rules}
+use Rattle.std.proofs.lemmas.Iterator.{YieldsList-from_slice}
+use Rattle.std.proofs.lemmas.Iterator.Consumers.{YieldsList-from_filter, YieldsList-at, count_from_yields_List}
+use Rattle.std.proofs.lemmas.List.Sums.{length-filter}
 use native.Mathlib.Omega.{arith}
-use borrow.Author.Rules.{rules}
-use Rattle.quality.specs.Coded.{cell, cells}
-use Rattle.daily.specs.Counts.{in_column}
-use Rattle.daily.proofs.Counting.{cell_turn}
+use Rattle.quality.specs.Coded.{cells}
+use Rattle.daily.specs.Counts.{counts_under, in_column}
+use Rattle.daily.proofs.Counting.{column_count, column_most}
 use Rattle.daily.proofs.counts.in_column.Goals as goal
-
-pub loop-k-init : goal.loop-k-init
-unfolding in_column
-loop-k-init c = (search rules, refl, search rules)
-
-pub loop-k-preserved : goal.loop-k-preserved
-loop-k-preserved c =
-    let l = c in
-    let r = c.at-d in
-    (search rules, cell_turn l.args.state l.loop-k.k l.loop-k.n c.counted-n.result (cells l.args.c) (cell r.result) r.ensures l.loop-k.invariant.1 c.counted-n.ensures.0, search rules)
 
 pub returns : goal.returns
 returns c =
-    let l = c.loop-k in
-    let e : l.k ≡ 9 = omega arith in
-    (rw e at l.invariant.1, search rules)
+    let s = c.args.state in
+    let d = c.args.c.now in
+    let e : c.count.result ≡ in_column s (cells d) 9 =
+    count_from_yields_List c.filter.result c.count.result c.count.ensures.ran
+    (YieldsList-from_filter _ (λ a. counts_under s a) (YieldsList-at c.filter.ensures.source (YieldsList-from_slice d.states c.iter.ensures.rest)) c.filter.ensures.closure (λ x b q k. search rules))
+    ∙ length-filter (λ a. counts_under s a) d.states
+    ∙ column_count s d (search rules) in
+    (e, omega (arith, e, column_most s (cells d) 9))
