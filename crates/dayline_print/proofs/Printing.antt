@@ -1,6 +1,7 @@
 -- What std prints of the numbers of a line, and how long the lines are.
 -- Assumes nothing.
 use mathlib.Core.Path.{◌≡◌, refl}
+use mathlib.Core.List.{List, ◌++◌}
 use Prim.Native.Nat.{ℕ, ◌<◌, ◌≤◌, ◌^◌}
 use native.Mathlib.Omega.{arith}
 use lib.IntN.{ℤ}
@@ -9,6 +10,9 @@ use Rattle.std.specs.Prelude.{Option, None, Some, IfSome, FitsSigned}
 use Rattle.std.specs.Int.{w32}
 use Rattle.std.specs.Fmt.{decimal as printed, signed_decimal as printed_signed}
 use Rattle.daily.specs.declared.DayLine.{DayLine}
+use Rattle.text_bytes.specs.Written.{Adds}
+use Rattle.text_bytes.proofs.Writing.{adds_two}
+use Rattle.text_numbers.specs.Numbers.{field}
 use Rattle.text_numbers.proofs.Decimals.{decimal_printed, signed_printed, digits_short, signed_short}
 use Rattle.dayline_print.specs.Printed.{or_dash, rain, slot, station_text, day_text, refused_text}
 
@@ -20,6 +24,11 @@ rain_printed (Some z) h = signed_printed z h
 pub slot_printed : (e : Option ℕ) → IfSome e (λ k. k < 2 ^ 64) → or_dash printed e ≡ slot e
 slot_printed None h = refl
 slot_printed (Some k) h = decimal_printed k h
+
+-- ---- three fields, one behind the other
+pub three_put : {room : ℕ} {a b c d x y z : List ℕ} → Adds room a b (field x) → Adds room b c (field y) → Adds room c d (field z)
+    → Adds room a d (field x ++ (field y ++ field z))
+three_put f g h = adds_two f (adds_two g h)
 
 -- ---- lengths
 rain_short : (r : Option ℤ) → length (rain r) ≤ 21
