@@ -1,4 +1,5 @@
-// Whether the stations of a store are sound, each by its entry and its block, by document 01's "The store".
+// Whether the stations of a store are sound, each by its entry and its block, by document 01's "The store". The room that n stations take is
+// required, since it is the header that tells n, and is tested before.
 ghost use Rattle.std.specs.Prelude.{◌≡◌, ◌&&◌, ◌-◌, ◌<◌, ◌≤◌, ltb, length};
 ghost use Rattle.laws.specs.All.{all};
 ghost use Rattle.store_layout.specs.Layout.{long, entry_at, store_length};
