@@ -12,12 +12,11 @@ use mathlib.Core.Bool.{Bool, true}
 use borrow.Author.Tests.{lt-leb}
 use Rattle.std.specs.Prelude.{Ok, Err}
 use Rattle.refusals.specs.declared.Refusal.{Refusal}
-use Rattle.refusals.specs.declared.Refusal.TheVariants.{Unsound, UnknownStation}
 use Rattle.refusals.specs.Refusals.{number}
 use Rattle.laws.proofs.Bools.{via}
 use Rattle.store_layout.specs.Sound.{sound}
 use Rattle.store_layout.specs.Framed.{Bytes}
-use Rattle.store_layout.specs.Index.{Index, nowhere, index}
+use Rattle.store_layout.specs.Index.{Index}
 use Rattle.store_layout.specs.Layout.{decode}
 use Rattle.store_layout.specs.Model.{station_at}
 use Rattle.store_soundness.specs.Located.{located}

@@ -33,7 +33,10 @@ pub fn step_block(block: &mut [u8], step: Step, climate: Climate, season: Season
     let block = as_block(block);
     let checked = sheet_of(block, Area::Checked);
     let dd = directions(block, Dd::Copy);
-    put_sheet(block, quality_steps::one_step(step, climate, season, dd, checked));
+    put_sheet(
+        block,
+        quality_steps::one_step(step, climate, season, dd, checked),
+    );
     if matches!(step, Step::Fill) {
         put_copies(block, Copies::Cleared);
     }

@@ -1,4 +1,5 @@
 // Filing a report in a store that is known to be sound: in the slot of the station that it names.
+// Whoever calls has tested the store, once for all reports of a text, so that each function requires it sound.
 #![tactic(auto)]
 
 ghost use Rattle.std.specs.Prelude.{◌≡◌};

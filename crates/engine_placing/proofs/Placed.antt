@@ -7,10 +7,8 @@ use mathlib.Core.Path.{◌≡◌, refl, sym, ◌∙◌, ap, ap₂}
 use mathlib.Core.Bool.{Bool, true, false, cond, ◌&&◌}
 use mathlib.Core.List.{List}
 use Prim.Native.Nat.{ℕ, ◌<◌, ◌≤◌}
-use native.Mathlib.Omega.{arith}
-use borrow.Author.Tests.{lt-ltb, le-ltb, eq-eqb, ne_eqb}
+use borrow.Author.Tests.{lt-ltb, le-ltb}
 use lib.Dec.{ltb, eqb}
-use Rattle.laws.proofs.Bools.{and_eq, and_false_right}
 use Rattle.synop_codes.specs.Value.{Value}
 use Rattle.store_layout.specs.Model.{Block, Station, head_of}
 use Rattle.quality.specs.declared.head.SlotHead.{SlotHead}

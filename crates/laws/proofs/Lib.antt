@@ -8,6 +8,4 @@ pub mod Fill
 pub mod Maps
 pub mod Offset
 pub mod Differences
-pub mod Signed
-pub mod Sizes
 pub mod Calls

@@ -1,6 +1,6 @@
 -- What the code's columns stand for: a `Column` is nine cells, their values, states and flags in three arrays.
 -- Assumes nothing.
-use Rattle.std.specs.Prelude.{List, map, ℕ, pos, get_or}
+use Rattle.std.specs.Prelude.{List, map, pos, get_or}
 use Rattle.laws.specs.Table.{table}
 use Rattle.quality.specs.declared.column.Column.{Column}
 use Rattle.quality.specs.Cell.{Cell}

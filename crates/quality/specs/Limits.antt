@@ -1,6 +1,6 @@
 -- "Limits min2, min1, max1, max2", by element, climate row and season (document 01, "Settling a station", step 1).
 -- Assumes nothing.
-use Rattle.std.specs.Prelude.{Bool, true, false, cond, ◌&&◌, [], ◌∷◌, ℕ, eqb, leb, ℤ, pos, neg_ℤ, get_or}
+use Rattle.std.specs.Prelude.{Bool, true, false, cond, ◌&&◌, [], ◌∷◌, ℕ, eqb, leb, pos, neg_ℤ, get_or}
 use Rattle.quality.specs.declared.limits.Limits as code
 use Rattle.quality.specs.declared.limits.Climate.{Climate}
 use Rattle.quality.specs.declared.limits.Climate.TheVariants.{Lowland, Hill}

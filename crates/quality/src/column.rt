@@ -33,7 +33,7 @@ impl Column {
         }
     }
 
-    // The cell at slot k.
+    // The cell at slot k, which is below 9 as an index into an array is.
     pub fn at(self, k: usize) -> Cell
         requires { k < 9 }
         ensures { result ≡ slot (cells self) k }

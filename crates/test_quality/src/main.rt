@@ -1,5 +1,6 @@
 // Runs the column checks and prints what they answer: cells at every limit, pairs of cells, winds, and columns through the time and fill
-// steps. A cell is printed as state, flag and value. Whole sheets through all four steps are in `test_engine`.
+// steps. A cell is printed as state, flag and value. Each function goes over one table,
+// which is what `show_columns`, `show_pairs` and `show_winds` have alike.
 #![tactic(auto)]
 
 use std::io;

@@ -10,6 +10,7 @@ pub fn end_line(rt: &impl Print) -> io::Result<()> {
     word(rt, b"\n")
 }
 
+// A cell: one line of print, like a heading in `test_synop`.
 pub fn cell(rt: &impl Print, d: Cell) -> io::Result<()> {
     print!(rt; " {} {} {}", d.state, d.flag, d.value)
 }
@@ -17,6 +18,7 @@ pub fn cell(rt: &impl Print, d: Cell) -> io::Result<()> {
 // A column on a line of its own.
 pub fn column(rt: &impl Print, c: Column) -> io::Result<()> {
     word(rt, b"column")?;
+    // Over slots, since a column is three arrays.
     for k in 0..9 {
         cell(rt, c.at(k))?;
     }

@@ -1,7 +1,6 @@
 -- `engine_filing::file_in` meets its contract.
 use mathlib.Core.Path.{sym, ◌∙◌, ap}
 use Rattle.std.proofs.lemmas.Result.{err_from_is_err_and}
-use Rattle.synop_contents.specs.Contents.{listed}
 use Rattle.synop.specs.Report.{passed}
 use Rattle.engine_filing.proofs.Filed.{told, nil_missing, nil_found, whole_missing, whole_found, found_station, found_slot, read_as, unread}
 use Rattle.engine_filing.proofs.file_in.Goals as goal

@@ -1,6 +1,5 @@
 -- `quality_columns::suspect_at` meets its contract: another flag at a slot is a cell with that flag there.
 use mathlib.Core.Path.{◌≡◌, sym, ◌∙◌, ap}
-use mathlib.Core.List.{List}
 use Prim.Native.Nat.{ℕ, ◌<◌}
 use borrow.Author.Rules.{rules}
 use lib.IntN.{pos}
@@ -10,7 +9,7 @@ use Rattle.quality.specs.declared.column.Column.{Column}
 use Rattle.quality.specs.Cell.{Cell, slot, flagged}
 use Rattle.quality.specs.Coded.{cells}
 use Rattle.quality.specs.Steps.{suspect_at}
-use Rattle.quality.proofs.Columns.{Nine, cell_of, slot_cells, cells_put}
+use Rattle.quality.proofs.Columns.{Nine, slot_cells, cells_put}
 use Rattle.quality_columns.proofs.suspect_at.Goals as goal
 
 -- a store of the state and the value that are there changes nothing

@@ -2,7 +2,7 @@
 use mathlib.Core.Path.{◌∙◌}
 use borrow.Author.Rules.{rules}
 use Rattle.laws.proofs.Calls.{tabled}
-use Rattle.quality.specs.Cell.{none, slot}
+use Rattle.quality.specs.Cell.{none}
 use Rattle.quality.specs.Coded.{cells}
 use Rattle.quality.specs.Steps.{time_cell, between}
 use Rattle.quality.proofs.Between.{ruled}

@@ -5,7 +5,6 @@ use lib.IntN.{ℤ, pos}
 use lib.ListN.{get_or}
 use mir.Syntax.{w16}
 use mir.Val.{to_z, of_z}
-use Rattle.quality.specs.Cell.{Cell}
 use Rattle.quality.proofs.Columns.{slot_cells}
 use Rattle.quality.proofs.column.Column.at.Goals as goal
 

@@ -1,5 +1,4 @@
 -- `quality::column::Column::of` meets its contract: each number of the nine cells in its array.
-use mathlib.Core.Path.{refl}
 use borrow.Author.Rules.{rules}
 use lib.IntN.{pos}
 use Rattle.laws.proofs.Calls.{mapped}
