@@ -26,7 +26,7 @@ pub struct Tally {
 }
 
 // The reports of a text, filed in order and counted; a tail that is not blank is one refused.
-// By `find`: an iterator over the pieces would have to tell the tail from a report.
+// By `find`: of the pieces of `split_inclusive` each would be asked again whether it ends in `=`, to tell the tail from a report.
 fn file_reports(store: &mut [u8], text: &[u8], time: Characters, rank: u8) -> Tally
     requires { Ready store.old text.now rank }
     ensures { Tallied (filings ours rank (heading time) (parted text.now) (at_first store.old)) result.accepted result.refused store.new }
@@ -46,7 +46,7 @@ fn file_reports(store: &mut [u8], text: &[u8], time: Characters, rank: u8) -> Ta
 }
 
 // A bulletin: refused whole 9, 13 for a rank above 24, 1, then 3 or 4; otherwise its reports are filed in order at that rank and counted. The
-// store is tested once.
+// store is tested once. Store, text and rank are the call's own arguments.
 pub fn bulletin(store: &mut [u8], text: &[u8], rank: u32) -> Result<Tally, Refusal>
     ensures { Gave (Bulletin.result store.old text.now rank) result store.new }
 {

@@ -20,12 +20,7 @@ pub fn day_line(checked: [Column; 9], heads: [SlotHead; 9]) -> DayLine
     requires { ValidSheet (sheet checked) }
     ensures { Says result (day_line heads (sheet checked)) }
 {
-    let t = checked[0];
-    let d = checked[1];
-    let p = checked[2];
-    let w = checked[3];
-    let c = checked[4];
-    let r = checked[6];
+    let [t, d, p, w, c, _, r, _, _] = checked;
     DayLine {
         temperature: mean(t),
         dew_point: mean(d),

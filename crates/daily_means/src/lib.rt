@@ -36,7 +36,7 @@ fn eightfold(c: Column) -> i32
     sum
 }
 
-// The eightfold sum times 0.125: exactly an eighth of it.
+// The eightfold sum times 0.125: exactly an eighth of it. One cast and one multiplication: the form that document 01 names.
 fn eighth(sum: i32) -> f64
     ensures rule { result ≡ eighth sum }
     ensures exact { IsEighth result sum }

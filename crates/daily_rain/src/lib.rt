@@ -1,4 +1,4 @@
-// The day's rain from R and the slot heads.
+// The day's rain from R and the slot heads. A slot is an index into nine, and is required below 9 as one.
 #![tactic(auto)]
 
 ghost use Rattle.std.specs.Prelude.{cond, ◌≡◌, ◌<◌};

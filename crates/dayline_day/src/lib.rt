@@ -13,7 +13,7 @@ use store_numbers::at::{store_length, store_space};
 
 // ---- the input
 
-// The reports of the pieces that are still to be read. The pieces are counted, up to a number that no run reaches.
+// The reports of the pieces that are still to be read. A proved loop has to end, so the pieces are counted, up to a number that no run reaches.
 fn feed_all(
     input: &mut Stdin,
     store: &mut [u8],

@@ -19,7 +19,7 @@ pub fn read(input: &mut Stdin, piece: &mut [u8]) -> Result<usize>
     input.read(piece)
 }
 
-// Where the reports begin in a piece of the input, and how long that piece is.
+// Where the reports begin in a piece of the input, and how long that piece is: the piece is lent for each read, so its length is told beside it.
 #[derive(Clone, Copy)]
 pub struct Place {
     pub from: usize,

@@ -1,4 +1,4 @@
-// Settling in portions on a station's own part of the store: begin, and one step.
+// Settling in portions on a station's own part of the store: begin, and one step. Why the part comes as bytes says `store_block::block::as_block`.
 #![tactic(auto)]
 
 ghost use Rattle.std.specs.Prelude.{◌≡◌, length};

@@ -14,7 +14,7 @@ fn is_dry(h: Indicators) -> bool
     h.rain_indicator == 3 && !h.rain_sent
 }
 
-// tR that the R of a dry station has in slot k; 0 where it stays missing. A table of the paper, slot by slot.
+// tR that the R of a dry station has in slot k; 0 where it stays missing, the number that the store keeps then. A table of the paper, slot by slot.
 fn dry_duration(k: usize) -> u8
     ensures { result ≡ dry_duration k }
 {

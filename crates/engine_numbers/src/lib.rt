@@ -20,7 +20,7 @@ pub fn due(settled: u16) -> Step
     }
 }
 
-// The settled number after a step.
+// The settled number after a step: a table of the paper.
 pub fn number_after(step: Step, settled: u16) -> u16
     requires { settled < 10 }
     ensures { result ≡ onward step settled }

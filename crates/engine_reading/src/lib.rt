@@ -1,4 +1,5 @@
-// What a settled station answers: a checked cell, its day line.
+// What a settled station answers: a checked cell, its day line. The arguments are the calls' own; why the store and an index are two parameters says
+// `engine_answers`.
 #![tactic(auto)]
 
 ghost use Rattle.std.specs.Prelude.{◌≡◌};

@@ -1,4 +1,6 @@
-// Settling one station at once: on its own part of the store, lent as `&mut store[a..b]`, and on the settled number beside it.
+// Settling one station at once: on its own part of the store, lent as `&mut store[a..b]`, the form that document 01 names, and on the
+// settled number beside it. Why the store and an index are two parameters says `engine_answers`, and why a part is lent as bytes
+// `store_block::block::as_block`.
 #![tactic(auto)]
 
 ghost use Rattle.std.specs.Prelude.{◌≡◌, length};

@@ -1,4 +1,6 @@
 -- The value of a humidity in a valid cell: 1 to 100 percent.
+--     humidity                           all that is known of it
+--     humidity_least, humidity_most      at least 1, and at most 100
 -- Assumes nothing.
 use mathlib.Core.Path.{◌≡◌, refl, sym}
 use mathlib.Core.Bool.{true, true≢false, ◌&&◌}
@@ -30,3 +32,10 @@ pub humidity : (e : ℕ) (c : Cell) → ValidCell e c → is_humidity c ≡ true
 humidity e c w h =
     percent c.value
     (and_right (eqb e dew_point && is_humidity c) (is_percent c.value) (or_second (lt-leb c.state 3 (omega (arith, eqb-true c.state 4 h))) (cell_parts w).state))
+
+module _ (e : ℕ) (c : Cell) (w : ValidCell e c) (h : is_humidity c ≡ true) where
+  pub humidity_least : 1 ≤ nat_abs c.value
+  humidity_least = (humidity e c w h).least
+
+  pub humidity_most : nat_abs c.value ≤ 100
+  humidity_most = (humidity e c w h).most

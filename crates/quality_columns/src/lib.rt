@@ -34,7 +34,7 @@ pub fn wind_column(dd: [u8; 9], w: Column) -> Column
     Column::of(from_fn(|k| wind_cell(dd[k], w.at(k))))
 }
 
-// The column with its cell at slot k suspect.
+// The column with its cell at slot k suspect; k is below 9, as an index is.
 pub fn suspect_at(c: Column, k: usize) -> Column
     requires { k < 9 }
     ensures { cells result ≡ suspect_at k (cells c) }
@@ -56,7 +56,7 @@ pub fn time_column(mends: bool, c: Column) -> Column
     Column::of(timed)
 }
 
-// The fill step on a column, slots 1 to 7.
+// The fill step on a column, slots 1 to 7. It is `time_column` over another rule: a rule passed as a closure needs a contract longer than the body.
 pub fn fill_column(c: Column) -> Column
     ensures { cells result ≡ between fill_cell (cells c) }
 {

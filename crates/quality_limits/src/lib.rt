@@ -1,4 +1,5 @@
-// The limits of the range step: a constant table of limit rows by element, climate row and season.
+// The limits of the range step: a constant table of limit rows by element, climate row and season, the form that document 01 names. The rows stand one
+// behind the other, so that one test goes over all 36.
 #![tactic(auto)]
 
 ghost use Rattle.std.specs.Prelude.{◌≡◌, map, ◌<◌};
@@ -70,7 +71,7 @@ fn limits_row(at: usize) -> Limits
     }
 }
 
-// The limits of an element (0 to 8) in a climate and season.
+// The limits of an element in a climate and season. The element is 0 to 8, as an index into the table is below its length.
 pub fn limits_for(element: usize, climate: Climate, season: Season) -> Limits
     requires { element < 9 }
     ensures { result ≡ limits element (row_of climate) (is_warm season) }

@@ -4,9 +4,10 @@
 
 ghost use Rattle.std.specs.Prelude.{◌≡◌, ◌+◌, ◌*◌, ◌<◌, ◌≤◌, length};
 ghost use Rattle.laws.specs.All.{all};
-ghost use Rattle.store_layout.specs.Layout.{block_length, cell_element, head_length, cell_length, sheet_length, raw_from, head_at, word};
+ghost use Rattle.store_layout.specs.Layout.{block_length, cell_element, head_length, cell_length, sheet_length, raw_from, head_at, word, signed};
 ghost use Rattle.store_layout.specs.Sound.{sound_head, sound_cell, sound_block};
 
+use quality::column::Cell;
 use store_fields::{Limits, is_cell, is_head};
 use store_numbers::at::{
     CELL_LENGTH, CHECKED_FROM, FLAG_IN, HEAD_LENGTH, RAW_FROM, SLOT_LENGTH, VALUE_IN,
@@ -40,25 +41,25 @@ fn are_heads(store: &[u8], at: usize, settled: u16) -> bool
 }
 
 // A cell's value at a position. By `word_at`, of `from_be_bytes`, the test of a store takes half as long again.
-fn value_at(store: &[u8], at: usize) -> u16
+fn value_at(store: &[u8], at: usize) -> i16
     requires { at + 1 < length store.now }
-    ensures { result ≡ word store.now at }
+    ensures { result ≡ signed (word store.now at) }
 {
-    (store[at] as u32 * 256 + store[at + 1] as u32) as u16
+    ((store[at] as u32 * 256 + store[at + 1] as u32) as u16).cast_signed()
 }
 
 // The cell of an element at a position.
+#[tactic(auto, unfolding(store_layout::specs::Layout::decode_cell))]
 fn is_cell_at(store: &[u8], at: usize, element: usize, limits: Limits) -> bool
     requires { at + cell_length ≤ length store.now }
     ensures { result ≡ sound_cell limits.states limits.flags element store.now at }
 {
-    is_cell(
-        element,
-        store[at],
-        store[at + FLAG_IN],
-        value_at(store, at + VALUE_IN),
-        limits,
-    )
+    let cell = Cell {
+        state: store[at],
+        flag: store[at + FLAG_IN],
+        value: value_at(store, at + VALUE_IN),
+    };
+    is_cell(element, cell, limits)
 }
 
 // The nine raw or checked cells of a slot from a position on, element by element.

@@ -15,7 +15,7 @@ use store_numbers::at::{
 use store_numbers::read::word_at;
 use store_numbers::write::put_word;
 
-// The date D of the store.
+// The date D of the store, which has room for a header, as indices into one require.
 #[tactic(auto, unfolding(store_layout::specs::Layout::decode))]
 pub fn date_of(store: &[u8]) -> Date
     requires { header_length ≤ length store.now }

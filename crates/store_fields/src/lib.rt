@@ -3,9 +3,9 @@
 
 ghost use Rattle.std.specs.Prelude.{◌≡◌, ◌&&◌, ltb};
 ghost use Rattle.quality.specs.Valid.{is_cell};
-ghost use Rattle.store_layout.specs.Layout.{signed};
 ghost use Rattle.store_layout.specs.Valid.{is_direction, is_entry, is_head};
 
+use quality::column::Cell;
 use quality::head::{HIGHEST_RANK, SlotHead};
 
 // D's number among the elements.
@@ -43,11 +43,12 @@ pub fn is_head(settled: u16, h: SlotHead) -> bool
     first & is_direction(h.copy)
 }
 
-// A cell of an element, its value in two's complement, within the limits of its sheet. A humidity stands in D's cells alone.
-#[tactic(auto, using(store_layout::proofs::Numbers::percent_test, store_layout::proofs::Numbers::size_test, store_layout::proofs::Numbers::zero_test), unfolding(quality::specs::Valid::is_cell))]
-pub fn is_cell(element: usize, state: u8, flag: u8, value: u16, limits: Limits) -> bool
-    ensures { result ≡ is_cell limits.states limits.flags element (record { state = state; flag = flag; value = signed value }) }
+// A cell of an element, within the limits of its sheet. A humidity stands in D's cells alone.
+#[tactic(auto, unfolding(quality::specs::Valid::is_cell))]
+pub fn is_cell(element: usize, cell: Cell, limits: Limits) -> bool
+    ensures { result ≡ is_cell limits.states limits.flags element cell }
 {
+    let Cell { state, flag, value } = cell;
     let humidity = (element == DEW_POINT) & (state == 4) & ((1 <= value) & (value <= 100));
     let stands = (state <= limits.states) | humidity;
     if !stands {
@@ -56,7 +57,7 @@ pub fn is_cell(element: usize, state: u8, flag: u8, value: u16, limits: Limits) 
     if limits.flags < flag {
         return false;
     }
-    if value == 32768 {
+    if 32767 < value.unsigned_abs() {
         return false;
     }
     (state != 0) | (value == 0)

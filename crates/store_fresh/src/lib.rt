@@ -1,4 +1,5 @@
-// The bytes of a fresh store: the header, the stations' entries, and their empty blocks.
+// The bytes of a fresh store: the header, the stations' entries, and their empty blocks. What is laid requires room for it, as an index does; stations and
+// rows are two slices, as C hands them over.
 #![tactic(auto)]
 
 ghost use Rattle.std.specs.Prelude.{◌≡◌, true, ◌++◌, ◌+◌, ◌≤◌, length, get_or};

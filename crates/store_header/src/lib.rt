@@ -13,7 +13,7 @@ use store_numbers::at::{
 };
 use store_numbers::read::word_at;
 
-// The header, and that the buffer has the length that its count of stations asks.
+// The header, for which there is room, as indices into it require, and that the buffer has the length that its count of stations asks.
 #[tactic(auto, unfolding(store_layout::specs::Sound::sound_header, store_layout::specs::Layout::decode))]
 pub fn is_header(store: &[u8]) -> bool
     requires { header_length ≤ length store.now }

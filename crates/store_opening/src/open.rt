@@ -8,14 +8,14 @@ use refusals::Refusal;
 use store_fresh::put_fresh;
 use store_numbers::at::{MOST_STATIONS, store_length};
 
-// A station's number, above the one before, and its climate row.
+// A station's number, above the one before, and its climate row. `store_fields::is_entry` tests a settled number besides, which is none yet.
 fn is_listed(last: u32, number: u32, row: u16) -> bool
     ensures { result ≡ (ltb last number && (leb 1 number && leb number 99999 && leb row 1)) }
 {
     (last < number) & ((1 <= number) & (number <= 99999) & (row <= 1))
 }
 
-// The numbers and the rows of all stations.
+// The numbers and the rows of all stations: a loop, since each turn leaves its number to the next.
 fn are_listed(stations: &[u32], rows: &[u16]) -> bool
     requires { length rows.now ≡ length stations.now }
     ensures { result ≡ listed stations.now rows.now }

@@ -21,13 +21,13 @@ pub enum Place {
     Nothing,
     // iRixhVV.
     Visibility,
-    // Nddff, and whether ff is 99.
+    // Nddff, and whether ff is 99, all that the next place asks of it.
     Wind(bool),
     // 00fff.
     Gale,
     // Section 1, by the group's first digit.
     One(u8),
-    // Section 2, 3, 4 or 5, and whether a 55 run is under way.
+    // Section 2, 3, 4 or 5, and whether a 55 run is under way, all that the next place asks of it.
     Later(u8, bool),
     // Out of order. A place as the others: the walk goes on, since checks 3 and 4 are asked of the whole text first.
     Wrong,

@@ -31,6 +31,7 @@ pub enum Part {
 // How many they are.
 const PARTS: usize = 12;
 
+// By the first digit of a group of section 1: a table of the paper.
 #[tactic(auto, unfolding(crate::specs::Parts::of_one))]
 fn of_one(d: u8) -> Option<Part>
     ensures { result ≡ parts.of_one d }
@@ -44,6 +45,7 @@ fn of_one(d: u8) -> Option<Part>
     }
 }
 
+// And of section 3.
 #[tactic(auto, unfolding(crate::specs::Parts::of_three))]
 fn of_three(a: u8) -> Option<Part>
     ensures { result ≡ parts.of_three a }

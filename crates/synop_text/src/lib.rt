@@ -20,7 +20,7 @@ pub struct Characters {
 // What kind of group it is.
 #[derive(Clone, Copy, Debug, PartialEq, Eq)]
 pub enum Group {
-    // None of the kinds below.
+    // None of the kinds below; a case and no `None`, since it is one of the text's groups as well.
     Other,
     Aaxx,
     Nil,

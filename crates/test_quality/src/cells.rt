@@ -5,7 +5,7 @@ ghost use Rattle.quality.specs.Valid.{ValidCell, ValidColumn};
 
 use quality::column::{Cell, Column};
 
-// The number that stands for a missing value in the tables: the one of 16 bits that no cell may hold.
+// The number that stands for a missing value in the tables: the one of 16 bits that no cell may hold. No `None`, so that a row stays a line.
 pub const M: i16 = i16::MIN;
 
 pub fn cell_of(v: i16) -> Cell

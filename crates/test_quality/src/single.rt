@@ -41,6 +41,7 @@ const SEASONS: [(Climate, Season); 4] = [
     (Climate::Hill, Season::Warm),
 ];
 
+// An element is an index below 9 of `limits_for`.
 fn show_element(rt: &impl Print, element: usize) -> io::Result<()>
     requires { element < 9 }
 {

@@ -1,4 +1,4 @@
--- The rule of the two constants that the table is kept in: one test, computed where they are named (`pressures`), and the law that
+-- The rule of the two constants that the table is kept in: one test, computed where they are named (`Table::new`), and the law that
 -- carries it to each index, a whole entry or the step from the entry before.
 -- Assumes nothing.
 use mathlib.Core.Path.{◌≡◌, refl, sym, subst}
