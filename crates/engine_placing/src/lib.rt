@@ -1,6 +1,6 @@
-// A report put in a slot of a station, where its rank allows it: in the station's own part of the store, lent as `&mut store[a..b]`, the form that document 01
-// names, and the settled number beside it. The slot k is an index below 9. Why the store and an index are two parameters says `engine_answers`, and why
-// a part is lent as bytes `store_block::block::as_block`.
+// A report put in a slot of a station, where its rank allows it: in the station's own part of the store, lent as `&mut store[a..b]`,
+// the form that document 01 names, and the settled number beside it. The slot k is an index below 9. Why the store and an index are two
+// parameters says `engine_answers`, and why a part is lent as bytes `store_block::block::as_block`.
 #![tactic(auto)]
 
 ghost use Rattle.std.specs.Prelude.{◌≡◌, ◌<◌, length};

@@ -9,4 +9,4 @@ overflow_add-result c =
     record { fits = omega (arith, total c.args.self.now.kept c.args.index c.requires, c.total.ensures, index_most c.args.index c.requires) }
 
 pub returns : goal.returns
-returns c = rw c.total.ensures (total c.args.self.now.kept c.args.index c.requires)
+returns c = omega (arith, c.total.ensures, total c.args.self.now.kept c.args.index c.requires)
