@@ -1,6 +1,6 @@
 // Settling one station in portions, begin and the four steps: its own part of the store is lent as `&mut store[a..b]`, the form that document
 // 01 names, to `engine_block`, and the settled number beside it is `engine_numbers`' matter. Why the store and an index are two parameters says
-// `engine_answers`.
+// `engine_answers`, and why a part is lent as bytes `store_block::block::as_block`.
 #![tactic(auto)]
 
 ghost use Rattle.std.specs.Prelude.{◌≡◌};

@@ -1,4 +1,5 @@
-// The entries of the table, computed by document 01's recurrence in whole numbers of 64 bits.
+// The entries of the table, computed by document 01's recurrence in whole numbers of 64 bits. An index is required below the table's length, as one
+// into it is.
 ghost use Rattle.std.specs.Prelude.{◌≡◌, ◌*◌, ◌<◌, ◌≤◌};
 ghost use Rattle.std.proofs.Math.IntN.{sub_ℕ};
 ghost use Rattle.vapour.specs.Vapour.{S, places, q, term, sum_to, entry};
