@@ -1,5 +1,5 @@
--- Offset binary: what the unsigned numbers tell of the values that they stand for. `a`, `b` are the numbers as the code has
--- them, `value a`, `value b` what they stand for.
+-- Offset binary: what the unsigned numbers tell of the values that they stand for. `a`, `b` are the numbers, `value a`,
+-- `value b` what they stand for.
 --     order       the order of the values is that of the numbers
 --     apart       so is the distance
 --     negated     65536 − a stands for the negative

@@ -1,6 +1,5 @@
--- A signed value of 16 bits, as the code keeps it: offset binary, v + 32768 in an unsigned number of 16 bits.
--- Order and differences are then those of the unsigned numbers. The store's own form, two's complement, is turned into it
--- where a cell is read.
+-- A signed value of 16 bits in offset binary: v + 32768 in an unsigned number of 16 bits. Order and differences are then those of
+-- the unsigned numbers. No code keeps a value so: it is how laws on differences and means of values are proved.
 -- Assumes nothing.
 use Rattle.std.specs.Prelude.{ℕ, ℤ}
 use Rattle.std.proofs.Math.IntN.{sub_ℕ}

@@ -15,6 +15,7 @@ abbrev pub row_of : Climate → ℕ
 row_of Lowland = 0
 row_of Hill = 1
 
+-- the code's season: "Warm is month 4 to 9 of D."
 abbrev pub is_warm : Season → Bool
 is_warm Cold = false
 is_warm Warm = true

@@ -28,6 +28,7 @@ pub struct Table {
 }
 
 impl Table {
+    // It promises what the type does: that the constants are right.
     pub fn new() -> Table {
         Table {
             whole: &WHOLE,
