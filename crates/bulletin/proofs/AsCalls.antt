@@ -16,9 +16,9 @@ use Rattle.rules.specs.Step.{Outcome, step}
 use Rattle.rules.specs.Runs.{left}
 use Rattle.engine_answers.proofs.Outcomes.{step_unsound}
 use Rattle.engine_filing.proofs.Filed.{file_high}
-use Rattle.bulletin_text.specs.Pieces.{parted, none}
-use Rattle.bulletin_text.specs.Heading.{heading_in}
-use Rattle.bulletin_text.specs.Rebuilt.{heading, rebuilt}
+use Rattle.bulletin.specs.Pieces.{parted, none}
+use Rattle.bulletin.specs.Heading.{heading_in}
+use Rattle.bulletin.specs.Rebuilt.{heading, rebuilt}
 use Rattle.refusals.specs.declared.Refusal.{Refusal}
 use Rattle.std.specs.Prelude as prelude
 use Rattle.std.specs.Prelude.{Ok, Err}

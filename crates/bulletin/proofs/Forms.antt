@@ -17,9 +17,9 @@ use Rattle.rules.proofs.Requests.{all_lawful}
 use Rattle.rules.proofs.Reports.{report_bounds}
 use Rattle.rules.proofs.Forms.{same_answer, same_store}
 use Rattle.rules.proofs.FormExamples.{padded, padded_lawful}
-use Rattle.bulletin_text.specs.Pieces.{parted, none}
-use Rattle.bulletin_text.specs.Heading.{heading_in}
-use Rattle.bulletin_text.specs.Rebuilt.{heading, rebuilt}
+use Rattle.bulletin.specs.Pieces.{parted, none}
+use Rattle.bulletin.specs.Heading.{heading_in}
+use Rattle.bulletin.specs.Rebuilt.{heading, rebuilt}
 use Rattle.refusals.specs.declared.Refusal.{Refusal}
 use Rattle.refusals.specs.Refusals.{number}
 use Rattle.std.specs.Prelude as prelude

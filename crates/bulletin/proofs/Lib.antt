@@ -3,3 +3,8 @@ pub mod Reports
 pub mod Results
 pub mod Forms
 pub mod AsCalls
+-- Laws that the proofs of `text` cite.
+pub mod Cuts
+pub mod Squeezed
+-- Laws that the proof of `file_report` cites.
+pub mod Filing

@@ -20,10 +20,10 @@ use Rattle.store_layout.specs.Sound.{sound}
 use Rattle.rules.specs.Calls.{Answer, is_accepted, file}
 use Rattle.rules.specs.Step.{step}
 use Rattle.engine_answers.specs.Replies.{reply}
-use Rattle.bulletin_text.specs.Rebuilt.{rebuilt}
-use Rattle.bulletin_text.specs.Pieces.{pieces, parted, none}
-use Rattle.bulletin_text.proofs.Cuts.{piece_here, piece_last}
-use Rattle.bulletin_report.specs.Filed.{Filed}
+use Rattle.bulletin.specs.Rebuilt.{rebuilt}
+use Rattle.bulletin.specs.Pieces.{pieces, parted, none}
+use Rattle.bulletin.proofs.Cuts.{piece_here, piece_last}
+use Rattle.bulletin.specs.Filed.{Filed}
 use Rattle.bulletin.specs.Bulletin.{Counts, tail, counted, filing, filings, at_first, Tallied}
 
 -- there is a piece always, the same behind whatever was read of it

@@ -21,11 +21,11 @@ use Rattle.store_layout.specs.Sound.{sound}
 use Rattle.store_layout.specs.Valid.{is_rank}
 use Rattle.synop_text.specs.Groups.{groups}
 use Rattle.synop_text.specs.declared.Characters.{Characters}
-use Rattle.bulletin_text.specs.declared.Start.{Start}
-use Rattle.bulletin_text.specs.Heading.{heading_in, Began}
-use Rattle.bulletin_text.specs.Pieces.{pieces, parted}
-use Rattle.bulletin_text.specs.Rebuilt.{heading}
-use Rattle.bulletin_text.proofs.Cuts.{piece_here, piece_last}
+use Rattle.bulletin.specs.declared.text.Start.{Start}
+use Rattle.bulletin.specs.Heading.{heading_in, Began}
+use Rattle.bulletin.specs.Pieces.{pieces, parted}
+use Rattle.bulletin.specs.Rebuilt.{heading}
+use Rattle.bulletin.proofs.Cuts.{piece_here, piece_last}
 use Rattle.bulletin.specs.declared.Tally.{Tally}
 use Rattle.bulletin.specs.Bulletin.{Result, headed, under, taken, result_in, result, Gave, Tallied, filings, at_first, counts, unchanged}
 use Rattle.bulletin.proofs.Reports.{First, first, first_piece}

@@ -10,9 +10,9 @@ use Rattle.store_layout.specs.Sound.{sound}
 use Rattle.store_layout.specs.Valid.{is_rank}
 use Rattle.rules.specs.Calls.{is_accepted, file}
 use Rattle.rules.specs.Step.{step_in}
-use Rattle.bulletin_text.specs.Pieces.{parted, none}
-use Rattle.bulletin_text.specs.Heading.{heading_in}
-use Rattle.bulletin_text.specs.Rebuilt.{heading, rebuilt}
+use Rattle.bulletin.specs.Pieces.{parted, none}
+use Rattle.bulletin.specs.Heading.{heading_in}
+use Rattle.bulletin.specs.Rebuilt.{heading, rebuilt}
 use Rattle.bulletin.specs.declared.Tally.{Tally}
 
 -- the store and the counts so far

@@ -5,9 +5,9 @@ use Rattle.std.specs.Prelude.{◌≡◌, cond, ◌&&◌, List, [], ◌∷◌, �
 use Rattle.rules.specs.Calls.{Call, file}
 use Rattle.rules.specs.Step.{step}
 use Rattle.rules.specs.Runs.{left}
-use Rattle.bulletin_text.specs.Pieces.{parted}
-use Rattle.bulletin_text.specs.Heading.{heading_in}
-use Rattle.bulletin_text.specs.Rebuilt.{heading, rebuilt}
+use Rattle.bulletin.specs.Pieces.{parted}
+use Rattle.bulletin.specs.Heading.{heading_in}
+use Rattle.bulletin.specs.Rebuilt.{heading, rebuilt}
 use Rattle.refusals.specs.declared.Refusal.{Refusal}
 use Rattle.synop_text.specs.declared.Characters.{Characters}
 use Rattle.bulletin.specs.Bulletin.{result}

@@ -2,24 +2,27 @@
 // answers on every buffer and text, and its contract gives the whole answer and every byte of the store at exit.
 #![tactic(auto)]
 
+mod report;
+mod text;
+
 ghost use Rattle.store_layout.specs.Form.{ours, AnyTwoForms};
-ghost use Rattle.bulletin_text.specs.Pieces.{parted};
-ghost use Rattle.bulletin_text.specs.Rebuilt.{heading};
+ghost use Rattle.bulletin.specs.Pieces.{parted};
+ghost use Rattle.bulletin.specs.Rebuilt.{heading};
 ghost use Rattle.bulletin.specs.Filings.{AsCalls};
 ghost use Rattle.bulletin.specs.Forms.{SameBulletins};
 ghost use Rattle.bulletin.specs.Bulletin.{filings, at_first, Tallied, Ready, Gave};
 ghost use Rattle.bulletin.specs.Bulletin as Bulletin;
 
-use bulletin_report::file_report;
-use bulletin_text::{is_blank, start_of};
+use crate::report::file_report;
+use crate::text::{is_blank, start_of};
 use quality::head::HIGHEST_RANK;
 use refusals::Refusal;
 use store_soundness::sound::is_sound;
 use synop_text::Characters;
-use text_bytes::find;
+use texts::bytes::find;
 
 // The reports that were accepted, and those that were refused.
-#[derive(Clone, Copy, Debug, PartialEq, Eq)]
+#[derive(Clone, Copy)]
 pub struct Tally {
     pub accepted: u32,
     pub refused: u32,

@@ -7,7 +7,7 @@ ghost use Rattle.calendar.specs.Dates.{leap, days_in, is_date, next_day};
 ghost use Rattle.calendar.specs.Slots.{slot_of};
 
 // A day, by its numbers; `is_date` tells whether it is one.
-#[derive(Clone, Copy, Debug, PartialEq, Eq)]
+#[derive(Clone, Copy)]
 pub struct Date {
     pub year: u32,
     pub month: u32,
@@ -56,7 +56,7 @@ fn next_day(date: Date) -> u32
     1
 }
 
-// The place of an hour among the hours of a day's slots. One call of std, as `text_bytes::find` is: a function for both would be std's own.
+// The place of an hour among the hours of a day's slots. One call of std, as `texts::bytes::find` is: a function for both would be std's own.
 fn place_of(hours: &[u32], gg: u32) -> Option<usize>
     ensures { result ≡ position (λ hour. gg == hour) hours.now }
 {

@@ -1,5 +1,5 @@
 // The day line of one station: its form, its rules in specs/, and its extremes and counts. Document 01, "The day line".
-// The crates `daily_means`, `daily_vapours` and `daily_rain` have its other parts, and `daily_line` puts it together.
+// `daily_line` has its other parts, means, vapour pressures and rain, and puts it together.
 #![tactic(auto)]
 
 pub mod counts;

@@ -1,17 +1,21 @@
 // The day line of one station, from its nine checked columns and its slot heads: document 01, "The day line".
 #![tactic(auto)]
 
+mod means;
+mod rain;
+mod vapours;
+
 ghost use Rattle.quality.specs.Coded.{sheet};
 ghost use Rattle.quality.specs.Valid.{ValidSheet};
 ghost use Rattle.daily.specs.Coded.{Says};
 ghost use Rattle.daily.specs.Line.{day_line};
 
+use crate::means::mean;
+use crate::rain::rain_total;
+use crate::vapours::vapour_column;
 use daily::DayLine;
 use daily::counts::count;
 use daily::extremes::{coldest, warmest};
-use daily_means::mean;
-use daily_rain::rain_total;
-use daily_vapours::vapour_column;
 use quality::column::Column;
 use quality::head::SlotHead;
 

@@ -4,7 +4,7 @@
 #![tactic(auto)]
 
 use dayline_day::run;
-use dayline_input::first_line;
+use dayline_text::input::first_line;
 use std::io::{Result, Stdin, Stdout, Write};
 
 // The whole program over a buffer for the pieces of the input. An error says that a read or a write failed.

@@ -2,12 +2,14 @@
 // Input, output and piece are handed on side by side: a struct of the three borrows would be taken apart at each call.
 #![tactic(auto)]
 
-ghost use Rattle.dayline_input.specs.Input.{Placed};
+mod filing;
 
-use dayline_filing::{Progress, open, station_text};
-use dayline_input::{Place, Start, read};
-use dayline_print::refused_text;
+ghost use Rattle.dayline_text.specs.Input.{Placed};
+
+use crate::filing::{Progress, open, station_text};
 use dayline_text::first_line::Opening;
+use dayline_text::input::{Place, Start, read};
+use dayline_text::print::refused_text;
 use std::io::{ErrorKind, Result, Stdin, Stdout, Write};
 use store_numbers::at::{store_length, store_space};
 

@@ -3,6 +3,8 @@
 // one station are alike in finding it; each states its own contract, so they are not one.
 #![tactic(auto)]
 
+mod reading;
+
 ghost use Rattle.std.specs.Prelude.{◌≡◌};
 ghost use Rattle.rules.specs.Calls as Calls;
 ghost use Rattle.engine_answers.specs.Replies.{reply, cell_reply, SaysDay, Did, open_outcome};
@@ -53,7 +55,7 @@ pub fn begin(store: &mut [u8], station: u32) -> Result<(), Refusal>
     ensures { Did (step (Calls.begin station) store.old) (reply result) store.new }
 {
     let index = locate(store, station)?;
-    engine_portions::begin_at(store, index);
+    engine_settling::portions::begin_at(store, index);
     Ok(())
 }
 
@@ -62,7 +64,7 @@ pub fn step(store: &mut [u8], station: u32) -> Result<(), Refusal>
     ensures { Did (Step.step (Calls.step station) store.old) (reply result) store.new }
 {
     let index = locate(store, station)?; // 6 before 14
-    engine_portions::step_at(store, index)
+    engine_settling::portions::step_at(store, index)
 }
 
 // One checked cell of a station, by element (0 to 8) and slot: refused 9, 6, 12, 11.
@@ -70,7 +72,7 @@ pub fn cell(store: &[u8], station: u32, element: u32, slot: u32) -> Result<Cell,
     ensures { cell_reply result ≡ (step (Calls.cell station element slot) store.now).answer }
 {
     let index = locate(store, station)?;
-    engine_reading::give_cell(store, index, element, slot)
+    crate::reading::give_cell(store, index, element, slot)
 }
 
 // The day line of a station: refused 9, 6, 11.
@@ -78,5 +80,5 @@ pub fn day(store: &[u8], station: u32) -> Result<DayLine, Refusal>
     ensures { SaysDay result (step (Calls.day station) store.now).answer }
 {
     let index = locate(store, station)?;
-    engine_reading::give_day(store, index)
+    crate::reading::give_day(store, index)
 }

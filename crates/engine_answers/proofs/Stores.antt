@@ -25,7 +25,7 @@ use Rattle.store_layout.proofs.Soundness.{sound_framed, sound_valid}
 use Rattle.store_layout.proofs.Validity.{EntryParts, entry_parts}
 use Rattle.store_layout.proofs.Writes.{lent, part_inside}
 use Rattle.store_layout.proofs.StationWrites.{write_station, framed_sets, count_kept}
-use Rattle.store_entries.specs.Marked.{Marked}
+use Rattle.store_numbers.specs.Marked.{Marked}
 use Rattle.engine_answers.specs.Good.{Good, StationAt}
 
 -- the part of s from a on that is lent, with the code's b

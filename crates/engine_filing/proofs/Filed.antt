@@ -28,9 +28,9 @@ use Rattle.synop.specs.Report as reports
 use Rattle.synop.specs.Report.{Report, report, meaning}
 use Rattle.store_soundness.specs.Located.{placed}
 use Rattle.store_soundness.proofs.Locations.{within}
-use Rattle.synop_contents.specs.declared.Identification.{Identification}
-use Rattle.synop_contents.specs.declared.Indicators.{Indicators}
-use Rattle.synop_codes.specs.Value.{Value}
+use Rattle.synop.specs.declared.contents.Identification.{Identification}
+use Rattle.synop.specs.declared.contents.Indicators.{Indicators}
+use Rattle.synop_values.specs.Value.{Value}
 use Rattle.engine_answers.specs.Good.{Good, StationAt}
 use Rattle.engine_filing.specs.declared.Place.{Place}
 use Rattle.engine_filing.specs.Places.{place_at, place}

@@ -7,7 +7,7 @@ use Rattle.calendar.specs.Slots.{slot_of}
 use Rattle.store_layout.specs.Model.{Store}
 use Rattle.store_layout.specs.Index.{index_in, numbers}
 use Rattle.store_soundness.specs.Located.{placed}
-use Rattle.synop_contents.specs.declared.Identification.{Identification}
+use Rattle.synop.specs.declared.contents.Identification.{Identification}
 use Rattle.engine_filing.specs.declared.Place.{Place}
 
 -- "6 station not in the store", then "7 no such slot"

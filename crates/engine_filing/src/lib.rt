@@ -1,6 +1,8 @@
-// Filing a report in a store that is known to be sound: in the slot of the station that it names.
+// Filing a report in a store that is known to be sound: in the slot of the station that it names, to which `placing` writes it.
 // Whoever calls has tested the store, once for all reports of a text, so that each function requires it sound.
 #![tactic(auto)]
+
+mod placing;
 
 ghost use Rattle.std.specs.Prelude.{◌≡◌};
 ghost use Rattle.calendar.specs.Slots.{slot_of};
@@ -12,11 +14,11 @@ ghost use Rattle.engine_answers.specs.Replies.{reply, Did};
 ghost use Rattle.engine_filing.specs.Places.{place};
 ghost use Rattle.rules.specs.Step.{asked};
 
-use engine_placing::{Filing, file_at};
+use crate::placing::{Filing, file_at};
 use refusals::Refusal;
 use store_soundness::find::find;
 use synop::Report;
-use synop_contents::Identification;
+use synop::contents::Identification;
 
 // Where a report lies: the index of its station, and its slot.
 #[derive(Clone, Copy)]
@@ -30,7 +32,7 @@ fn slot_in(store: &[u8], h: Identification) -> Option<usize>
     requires { Good store.now }
     ensures { result ≡ slot_of (decode store.now).year (decode store.now).month (decode store.now).day h.day h.hour }
 {
-    let date = store_entries::date_of(store);
+    let date = store_numbers::entries::date_of(store);
     calendar::slot_of(date, u32::from(h.day), u32::from(h.hour))
 }
 

@@ -1,7 +1,10 @@
-// Settling one station at once: on its own part of the store, lent as `&mut store[a..b]`, the form that document 01 names, and on the
-// settled number beside it. Why the store and an index are two parameters says `engine_answers`, and why a part is lent as bytes
+// Settling one station, at once (in portions: `portions`): on its own part of the store, lent as `&mut store[a..b]`, the form that document 01
+// names, and on the settled number beside it. Why the store and an index are two parameters says `engine_answers`, and why a part is lent as bytes
 // `store_block::block::as_block`.
 #![tactic(auto)]
+
+mod block;
+pub mod portions;
 
 ghost use Rattle.std.specs.Prelude.{◌≡◌, length};
 ghost use Rattle.store_layout.specs.Model.{station_at};
@@ -16,9 +19,9 @@ ghost use Rattle.rules.specs.Reaction.{date_of};
 
 use quality::limits::{Climate, Season, climate_of, season_of};
 use store_block::block::{Copies, Dd, as_block, directions, put_copies, put_sheet, sheet_of};
-use store_cells::Area;
-use store_entries::{block_start, date_of, row_of, set_settled};
+use store_numbers::area::Area;
 use store_numbers::at::BLOCK_LENGTH;
+use store_numbers::entries::{block_start, date_of, row_of, set_settled};
 
 // The checked cells of a block from its raw ones. A settling under way is dropped: its copies of dd are cleared.
 fn settle_block(block: &mut [u8], climate: Climate, season: Season)

@@ -1,16 +1,18 @@
-// A report as the slot gets it where it is filed: the slot's head and its nine raw cells. What R a dry station has is `engine_dry`'s matter.
+// A report as the slot gets it where it is filed: the slot's head and its nine raw cells. What R a dry station has is `dry`'s matter.
 #![tactic(auto)]
 
+mod dry;
+
 ghost use Rattle.std.specs.Prelude.{◌≡◌};
-ghost use Rattle.synop_codes.specs.Value as codes;
-ghost use Rattle.synop_contents.specs.Contents.{listed};
+ghost use Rattle.synop_values.specs.Value as codes;
+ghost use Rattle.synop.specs.Contents.{listed};
 ghost use Rattle.rules.specs.Rules.{raw_cell, filed_head, filed_cells};
 
-use engine_dry::{filed_duration, filed_rain};
+use crate::dry::{filed_duration, filed_rain};
 use quality::column::Cell;
 use quality::head::SlotHead;
-use synop_codes::Moisture;
-use synop_contents::{Indicators, Values};
+use synop::contents::{Indicators, Values};
+use synop_values::codes::Moisture;
 
 // A report's value as a raw cell.
 fn raw_cell(v: Option<i16>) -> Cell

@@ -15,7 +15,7 @@ use Rattle.refusals.specs.Refusals as refusals
 use Rattle.std.specs.Prelude.{Ok, Err}
 use Rattle.rules.specs.Calls.{Answer}
 use Rattle.rules.proofs.Answers.{is_refused, IsDay, is_day}
-use Rattle.capi_arrays.specs.Arrays.{line_of, floats, numbers}
+use Rattle.capi.specs.Arrays.{line_of, floats, numbers}
 use Rattle.esfenruk.specs.Arrays.{ExactMeans, DayReturned}
 
 pub line_same : (l : DayLine) (d : Line.DayLine) → Says l d → l ≡ line_of d

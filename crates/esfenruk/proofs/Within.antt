@@ -14,8 +14,8 @@ use Rattle.rules.specs.Calls.{Answer, refused, a_day, on_day, day, ask}
 use Rattle.rules.specs.Rules.{rule, day_of}
 use Rattle.rules.specs.Reaction.{stays, at}
 use Rattle.rules.specs.Step.{Outcome, outcome_in, step_in, step, asked, unchanged}
-use Rattle.capi_arrays.specs.Arrays.{Small, line_of}
-use Rattle.capi_arrays.proofs.Within.{line_small}
+use Rattle.capi.specs.Arrays.{Small, line_of}
+use Rattle.capi.proofs.Within.{line_small}
 
 abbrev pub Modest : Answer → Type 0
 Modest a = on_day (λ d. Small (line_of d)) (Unit {0}) a

@@ -5,8 +5,8 @@ use Rattle.quality.specs.Cell.{Cell}
 use Rattle.daily.specs.Coded.{Exact}
 use Rattle.daily.specs.Line.{DayLine}
 use Rattle.rules.specs.Calls.{Answer, on_cell, on_day}
-use Rattle.capi_arrays.specs.Arrays.{line_of, floats, numbers}
-use Rattle.capi_numbers.specs.Numbers.{number}
+use Rattle.capi.specs.Arrays.{line_of, floats, numbers}
+use Rattle.capi.specs.Numbers.{number}
 
 -- ---- cell
 -- state, flag, value

@@ -3,7 +3,7 @@
 use Rattle.std.specs.Prelude.{◌≡◌, List, [], ◌∷◌, ℕ}
 use Rattle.rules.specs.Step.{Outcome}
 use Rattle.bulletin.specs.Bulletin.{Answered, whole, counts, Result}
-use Rattle.capi_numbers.specs.Numbers.{number}
+use Rattle.capi.specs.Numbers.{number}
 
 -- a call returned r and left the bytes t, as the outcome o says
 pub record Returned (o : Outcome) (r : ℕ) (t : List ℕ) : Type 0 where

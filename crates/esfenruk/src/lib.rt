@@ -7,7 +7,7 @@
 ghost use Rattle.std.specs.Prelude.{◌≡◌};
 ghost use Rattle.esfenruk.specs.Arrays.{cell_numbers, DayReturned};
 ghost use Rattle.esfenruk.specs.Numbers.{Returned, Delivered};
-ghost use Rattle.capi_numbers.specs.Numbers.{number};
+ghost use Rattle.capi.specs.Numbers.{number};
 ghost use Rattle.bulletin.specs.Bulletin as Bulletin;
 ghost use Rattle.engine_answers.specs.Replies.{open_outcome};
 ghost use Rattle.rules.specs.Calls as Calls;
@@ -15,8 +15,8 @@ ghost use Rattle.rules.specs.Step.{step};
 ghost use Rattle.vapour.specs.Generator.{Fills};
 
 use calendar::Date;
-use capi_arrays::{line_floats, line_numbers};
-use capi_numbers::{ACCEPTED, cell_numbers, count_numbers, filling_number, number_of};
+use capi::arrays::{line_floats, line_numbers};
+use capi::numbers::{ACCEPTED, cell_numbers, count_numbers, filling_number, number_of};
 
 // Opens a store for a date and stations, each with its climate row: 0 or 10.
 #[unsafe(no_mangle)]
@@ -132,5 +132,5 @@ pub extern "C" fn esfenruk_bulletin(
 pub extern "C" fn esfenruk_vapour_table(entries: &mut [u16]) -> u32
     ensures { Fills 0 (λ n. n) entries.old result entries.new }
 {
-    filling_number(vapour_generator::fill(entries))
+    filling_number(vapour::generator::fill(entries))
 }

@@ -6,3 +6,5 @@ pub mod Steps
 pub mod Settled
 pub mod Valid
 pub mod Coded
+-- What a row of the table of limits stands for.
+pub mod Rows

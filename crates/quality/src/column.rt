@@ -6,7 +6,7 @@ ghost use Rattle.quality.specs.Steps.{passed_over};
 
 // States: 0 missing, 1 read, 2 corrected, 3 filled, 4 a humidity. Flags: 0 none, 1 range, 2 internal, 3 time, 4 suspect. They are numbers
 // and no enums, since the store and C keep each as a byte, and any byte may lie in a store that is read.
-#[derive(Clone, Copy, Debug, PartialEq, Eq)]
+#[derive(Clone, Copy)]
 pub struct Cell {
     pub state: u8,
     pub flag: u8,
@@ -14,7 +14,7 @@ pub struct Cell {
 }
 
 // Three arrays and no array of cells: the form that document 01 names for the columns that go through the steps.
-#[derive(Clone, Copy, Debug, PartialEq, Eq)]
+#[derive(Clone, Copy)]
 pub struct Column {
     pub values: [i16; 9],
     pub states: [u8; 9],

@@ -5,7 +5,7 @@
 // The highest rank, that of CCX.
 pub const HIGHEST_RANK: u32 = 24;
 
-#[derive(Clone, Copy, Debug, PartialEq, Eq)]
+#[derive(Clone, Copy)]
 pub struct SlotHead {
     pub filed: u8,
     pub ir: u8,

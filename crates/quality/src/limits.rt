@@ -1,8 +1,8 @@
-// The limits of the range step, and what they go by. Their table is the crate `quality_limits`.
+// The limits of the range step, and what they go by. Their table is `rows`.
 ghost use Rattle.std.specs.Prelude.{◌≡◌, ◌<◌};
 ghost use Rattle.quality.specs.Limits.{row_of, is_warm, warm};
 
-#[derive(Clone, Copy, Debug, PartialEq, Eq)]
+#[derive(Clone, Copy)]
 pub struct Limits {
     pub min2: i16,
     pub min1: i16,
@@ -11,7 +11,7 @@ pub struct Limits {
 }
 
 // A station's climate row.
-#[derive(Clone, Copy, Debug, PartialEq, Eq)]
+#[derive(Clone, Copy)]
 pub enum Climate {
     Lowland,
     Hill,
@@ -28,7 +28,7 @@ pub fn climate_of(row: u16) -> Climate
     }
 }
 
-#[derive(Clone, Copy, Debug, PartialEq, Eq)]
+#[derive(Clone, Copy)]
 pub enum Season {
     Cold,
     Warm,

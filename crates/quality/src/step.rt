@@ -1,5 +1,5 @@
 // The four steps of settling, in their order.
-#[derive(Clone, Copy, Debug, PartialEq, Eq)]
+#[derive(Clone, Copy)]
 pub enum Step {
     Range,
     Internal,

@@ -10,7 +10,7 @@ use quality::column::Column;
 use quality::internal::{dew_cell, wind_cell};
 use quality::limits::Limits;
 use quality::range::range_cell;
-use quality_time::{fill_cell, time_cell};
+use quality::time::{fill_cell, time_cell};
 use std::array::from_fn;
 
 // The range step, every cell against the limits.
@@ -44,7 +44,7 @@ pub fn suspect_at(c: Column, k: usize) -> Column
     r
 }
 
-// The time step on a column, slots 1 to 7. `mends`: as in `quality_time`.
+// The time step on a column, slots 1 to 7. `mends`: as in `quality::time`.
 pub fn time_column(mends: bool, c: Column) -> Column
     requires { Sized (cells c) }
     ensures { cells result ≡ between (time_cell mends) (cells c) }

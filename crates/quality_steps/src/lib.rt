@@ -11,11 +11,11 @@ ghost use Rattle.quality.specs.Valid.{ValidSheet};
 use quality::column::Column;
 use quality::internal::maximum_below_minimum;
 use quality::limits::{Climate, Season};
+use quality::rows::limits_for;
 use quality::step::Step;
 use quality_columns::{
     dew_column, fill_column, range_column, suspect_at, time_column, wind_column,
 };
-use quality_limits::limits_for;
 use std::array::from_fn;
 
 // 1. Range: every element's column against its limits.

@@ -5,7 +5,7 @@ ghost use Rattle.std.specs.Prelude.{◌≡◌};
 ghost use Rattle.refusals.specs.Refusals as refusals;
 
 // In the order of their numbers, 1 to 14; a number is made of one by `From`.
-#[derive(Clone, Copy, Debug, PartialEq, Eq)]
+#[derive(Clone, Copy)]
 pub enum Refusal {
     // A report is empty or above 512 bytes, or its `=` is absent, early or not last. A bulletin is empty or above 16384 bytes.
     Unended,

@@ -8,7 +8,7 @@ use Rattle.std.specs.Prelude.{Option, None, Some}
 use Prim.Native.Nat.{ℕ}
 use lib.IntN.{ℤ, pos}
 use Rattle.laws.specs.Table.{table}
-use Rattle.synop_codes.specs.Value.{Value, missing, read}
+use Rattle.synop_values.specs.Value.{Value, missing, read}
 use Rattle.quality.specs.Steps
 use Rattle.quality.specs.Settled
 use Rattle.daily.specs.Line

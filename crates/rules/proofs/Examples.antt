@@ -17,20 +17,20 @@ use Rattle.calendar.specs.Slots.{slot_of}
 use Rattle.synop_text.specs.Characters
 use Rattle.synop_text.specs.Groups
 use Rattle.synop_text.specs.Kinds
-use Rattle.synop_bytes.specs.Bytes
-use Rattle.synop_order.specs.Places
+use Rattle.synop_checks.specs.Bytes
+use Rattle.synop_text.specs.Places
 use Rattle.synop_checks.specs.Ranges
 use Rattle.synop_checks.specs.Refusal
 use Rattle.synop_checks.specs.Shapes
-use Rattle.synop_codes.specs.Tables
-use Rattle.synop_figures.specs.Digits
-use Rattle.synop_figures.specs.Elements
-use Rattle.synop_figures.specs.Indicators as figures
-use Rattle.synop_figures.specs.OneGroup
-use Rattle.synop_codes.specs.Value.{Value, missing, read}
+use Rattle.synop_values.specs.Tables
+use Rattle.synop_values.specs.Digits
+use Rattle.synop_values.specs.Elements
+use Rattle.synop_values.specs.Indicators as figures
+use Rattle.synop_values.specs.OneGroup
+use Rattle.synop_values.specs.Value.{Value, missing, read}
 use Rattle.synop_parts.specs.Parts
-use Rattle.synop_contents.specs.Contents
-use Rattle.synop_contents.specs.declared.Indicators.{Indicators}
+use Rattle.synop.specs.Contents
+use Rattle.synop.specs.declared.contents.Indicators.{Indicators}
 use Rattle.synop.specs.Report as reports
 use Rattle.synop.specs.Report.{Report, report}
 use Rattle.synop.proofs.Examples.{bytes_from, bytes}

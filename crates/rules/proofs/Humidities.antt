@@ -8,7 +8,7 @@ use mathlib.Core.List.{List, [], ◌∷◌}
 use Rattle.std.specs.Prelude.{None, Some}
 use lib.IntN.{pos}
 use Rattle.laws.specs.Table.{table}
-use Rattle.synop_codes.specs.Value.{Value, missing, read, humidity}
+use Rattle.synop_values.specs.Value.{Value, missing, read, humidity}
 use Rattle.quality.specs.Steps
 use Rattle.quality.specs.Settled
 use Rattle.vapour.specs.Vapour
@@ -20,7 +20,7 @@ use Rattle.daily.specs.Means.{absent, mended, sum, average, vapour_column}
 use Rattle.daily.specs.Rain
 use Rattle.store_layout.specs.Model.{Station}
 use Rattle.store_layout.specs.Updates.{with_slot, with_checked, with_copies, with_block}
-use Rattle.synop_contents.specs.declared.Indicators.{Indicators}
+use Rattle.synop.specs.declared.contents.Indicators.{Indicators}
 use Rattle.rules.specs.Calls.{a_day}
 use Rattle.rules.specs.Rules
 use Rattle.rules.specs.Rules.{filed, settled_station, day_of}

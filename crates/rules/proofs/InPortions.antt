@@ -31,8 +31,8 @@ use Rattle.store_layout.specs.Index.{Index, nowhere, index, index_in, numbers}
 use Rattle.store_layout.proofs.Soundness.{sound_valid, sound_encoded}
 use Rattle.store_layout.proofs.Indices.{found}
 use Rattle.store_layout.specs.Updates.{with_slot, with_checked, with_copies, with_block}
-use Rattle.synop_codes.specs.Value.{Value}
-use Rattle.synop_contents.specs.declared.Indicators.{Indicators}
+use Rattle.synop_values.specs.Value.{Value}
+use Rattle.synop.specs.declared.contents.Indicators.{Indicators}
 use Rattle.rules.specs.Calls as calls
 use Rattle.rules.specs.Calls.{Call, begin, refused, accepted, is_accepted, Request, take_nil, take, settling, beginning, stepping, give_cell, give_day, Ask, unnamed, named, denied, ask}
 use Rattle.rules.specs.Rules.{Date, Effect, filed_head, reported, filed, file_at, nil_in, file_in, directions, copies, with_mark, with_copies_mark, copy_step, step_done, begun_station, due, onward, gone_on, portion, rule}

@@ -6,7 +6,7 @@ use Rattle.laws.specs.Table.{table}
 use Rattle.quality.specs.Settled.{time_of, fill_of}
 use Rattle.quality.specs.Steps.{between, range_cell, time_cell, spike_cell, fill_cell}
 use Rattle.calendar.proofs.Examples.{after_2024_02_28}
-use Rattle.synop_figures.proofs.ProofTable as codes
+use Rattle.synop_values.proofs.ProofTable as codes
 use Rattle.vapour.proofs.Examples.{at_0, at_100}
 use Rattle.rules.specs.ProofTable.{ProofTable}
 

@@ -15,11 +15,11 @@ use native.Mathlib.Omega.{arith}
 use borrow.Author.Tests.{le-leb, lt-ltb}
 use lib.ListN.{length, take, get_or, length-take}
 use lib.Seq.{take_all}
-use Rattle.synop_codes.specs.Value.{Value, missing, Within}
-use Rattle.synop_codes.proofs.CodeRanges.{Direction}
-use Rattle.synop_contents.proofs.ContentRanges.{AllWithin}
+use Rattle.synop_values.specs.Value.{Value, missing, Within}
+use Rattle.synop_values.proofs.CodeRanges.{Direction}
+use Rattle.synop.proofs.ContentRanges.{AllWithin}
 use Rattle.store_layout.specs.Valid.{is_direction}
-use Rattle.synop_bytes.specs.Bytes.{check1}
+use Rattle.synop_checks.specs.Bytes.{check1}
 use Rattle.synop_checks.specs.Refusal.{refusal}
 use Rattle.synop.specs.Report.{Report, read, report}
 use Rattle.synop.proofs.ReportRanges.{InRange, report_in_range}

@@ -15,7 +15,7 @@ use Rattle.laws.proofs.Bools.{Known, is_true, is_false, known, cond_keeps, by_co
 use Rattle.calendar.specs.Slots.{slot_of}
 use Rattle.calendar.proofs.Slots as slots
 use Rattle.std.specs.Prelude.{Option, Some, None}
-use Rattle.synop_codes.specs.Value.{Value, missing, read, humidity, Within}
+use Rattle.synop_values.specs.Value.{Value, missing, read, humidity, Within}
 use Rattle.store_layout.specs.Model.{Station, head_of}
 use Rattle.store_layout.specs.Valid.{ValidStation, is_direction, highest_rank, is_rank, is_under_way}
 use Rattle.store_layout.proofs.Validity.{head_parts, head_whole, entry_parts, valid_marked, valid_with_slot}
@@ -24,8 +24,8 @@ use Rattle.quality.specs.Elements.{rain}
 use Rattle.quality.specs.Valid.{RawCell}
 use Rattle.quality.proofs.Validity.{cell_whole, none_valid, humidity_valid}
 use Rattle.synop.specs.Report.{Report, report}
-use Rattle.synop_contents.specs.declared.Indicators.{Indicators}
-use Rattle.synop_contents.specs.declared.Identification.{Identification}
+use Rattle.synop.specs.declared.contents.Indicators.{Indicators}
+use Rattle.synop.specs.declared.contents.Identification.{Identification}
 use Rattle.rules.specs.Calls.{Call, file, settle, begin, step, cell, day, Answer, refused, Request, take_nil, take, settling, beginning, stepping, give_cell, give_day, Ask, unnamed, named, denied, ask, ask_file, deny}
 use Rattle.rules.specs.Dry.{is_dry, dry_duration, filed_duration, filed_values}
 use Rattle.rules.specs.Rules.{keeps, makes, raw_cell, filed_head, filed_cells, reported, filed, file_at, nil_in, file_in, settled_station, begun_station, portion, rule}

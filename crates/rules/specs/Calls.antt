@@ -1,12 +1,12 @@
 -- Calls, answers, and what a call asks of whom.
 -- Assumes nothing.
 use Rattle.std.specs.Prelude.{Bool, true, false, cond, List, ℕ}
-use Rattle.synop_codes.specs.Value.{Value}
+use Rattle.synop_values.specs.Value.{Value}
 use Rattle.daily.specs.Line.{DayLine}
 use Rattle.quality.specs.Cell.{Cell}
 use Rattle.store_layout.specs.Valid.{is_rank}
 use Rattle.synop.specs.Report.{Report, report}
-use Rattle.synop_contents.specs.declared.Indicators.{Indicators}
+use Rattle.synop.specs.declared.contents.Indicators.{Indicators}
 
 -- "Two calls are the same if their kind and their arguments other than the store are, a text byte for byte."
 -- S-3: "Filing takes a rank"; "with the rank as part of each filing call". S-6: "The lists of demand 3 may then hold begin and step calls as

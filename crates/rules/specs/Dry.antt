@@ -2,8 +2,8 @@
 -- Assumes nothing.
 use Rattle.std.specs.Prelude.{Bool, not, cond, ◌&&◌, ◌||◌, List, ℕ, eqb, pos, get_or, set}
 use Rattle.quality.specs.Elements as element
-use Rattle.synop_codes.specs.Value.{Value, missing, read}
-use Rattle.synop_contents.specs.declared.Indicators.{Indicators}
+use Rattle.synop_values.specs.Value.{Value, missing, read}
+use Rattle.synop.specs.declared.contents.Indicators.{Indicators}
 
 -- "where R is absent from the report and iR is 3"; "A group 6 that is present wins over iR, even if its value is missing"
 abbrev pub is_dry : Indicators → Bool

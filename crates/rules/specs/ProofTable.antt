@@ -2,9 +2,9 @@
 -- Assumes nothing.
 use Rattle.std.specs.Prelude.{◌≡◌, true, List, [], ◌∷◌, ℤ, pos, neg_ℤ, Some}
 use Rattle.calendar.specs.Dates.{next_day}
-use Rattle.synop_codes.specs.Tables.{char}
-use Rattle.synop_figures.specs.Elements.{wind_ff, visibility, rain, pressure}
-use Rattle.synop_codes.specs.Value.{missing, read}
+use Rattle.synop_values.specs.Tables.{char}
+use Rattle.synop_values.specs.Elements.{wind_ff, visibility, rain, pressure}
+use Rattle.synop_values.specs.Value.{missing, read}
 use Rattle.quality.specs.Cell.{Cell, none, discarded, slot}
 use Rattle.quality.specs.Elements.{temperature}
 use Rattle.quality.specs.Limits.{Limits, limits}

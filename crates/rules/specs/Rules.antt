@@ -3,7 +3,7 @@
 -- Assumes nothing.
 use Rattle.std.specs.Prelude.{cond, ◌&&◌, ◌||◌, List, map, ℕ, suc, ◌+◌, leb, ltb, eqb, pos, Option, Some, None}
 use Rattle.calendar.specs.Slots.{slot_of}
-use Rattle.synop_codes.specs.Value.{Value, missing, read, humidity}
+use Rattle.synop_values.specs.Value.{Value, missing, read, humidity}
 use Rattle.daily.specs.Line.{day_line}
 use Rattle.store_layout.specs.Model.{Block, Station, head_of}
 use Rattle.quality.specs.declared.head.SlotHead.{SlotHead}
@@ -15,7 +15,7 @@ use Rattle.quality.specs.Limits.{warm}
 use Rattle.quality.specs.Settled.{one_step}
 use Rattle.quality.specs.declared.step.Step.{Step}
 use Rattle.quality.specs.declared.step.Step.TheVariants.{Range, Internal, Time, Fill}
-use Rattle.synop_contents.specs.declared.Indicators.{Indicators}
+use Rattle.synop.specs.declared.contents.Indicators.{Indicators}
 use Rattle.rules.specs.Dry.{filed_duration, filed_values}
 use Rattle.rules.specs.Calls.{Answer, refused, accepted, a_cell, a_day, Request, take_nil, take, settling, beginning, stepping, give_cell, give_day}
 

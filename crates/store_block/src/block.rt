@@ -6,13 +6,13 @@ ghost use Rattle.quality.specs.Elements.{column};
 ghost use Rattle.store_layout.specs.Model.{head_of};
 ghost use Rattle.store_layout.specs.Layout.{block_length, decode_block};
 ghost use Rattle.store_layout.specs.Updates.{with_slot, with_checked, with_copies};
-ghost use Rattle.store_cells.specs.Areas.{sheet_in, with_column};
+ghost use Rattle.store_numbers.specs.Areas.{sheet_in, with_column};
 ghost use Rattle.store_block.specs.Coded.{dd_of, directions_of, copy_for};
 
 use quality::column::{Cell, Column};
 use quality::head::SlotHead;
 use std::array::from_fn;
-use store_cells::{Area, cell_of, put_cell};
+use store_numbers::area::{Area, cell_of, put_cell};
 use store_numbers::at::{BLOCK_LENGTH, COPY_IN, HEAD_LENGTH};
 use store_numbers::head::{head_at, put_head};
 

@@ -1,4 +1,5 @@
 // Opening a store.
 #![tactic(auto)]
 
+mod fresh;
 pub mod open;

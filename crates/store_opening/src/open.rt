@@ -3,9 +3,9 @@ ghost use Rattle.std.specs.Prelude.{◌≡◌, ◌&&◌, leb, ltb, length};
 ghost use Rattle.store_layout.specs.Opening.{openable};
 ghost use Rattle.store_opening.specs.Opened.{listed, Opened};
 
+use crate::fresh::put_fresh;
 use calendar::{Date, is_date};
 use refusals::Refusal;
-use store_fresh::put_fresh;
 use store_numbers::at::{MOST_STATIONS, store_length};
 
 // A station's number, above the one before, and its climate row. `store_fields::is_entry` tests a settled number besides, which is none yet.

@@ -3,3 +3,6 @@ pub mod InTurn
 pub mod Locations
 pub mod Indices
 pub mod Sounds
+-- Laws that the proofs of `blocks` cite.
+pub mod BlockSounds
+pub mod Nines

@@ -3,8 +3,8 @@ ghost use Rattle.std.specs.Prelude.{◌≡◌};
 ghost use Rattle.store_layout.specs.Sound.{sound};
 
 use crate::stations::are_stations;
-use store_header::is_header;
 use store_numbers::at::{COUNT_AT, HEADER_LENGTH};
+use store_numbers::header::is_header;
 use store_numbers::read::word_at;
 
 // Whether a buffer is a sound store.

@@ -5,7 +5,7 @@ ghost use Rattle.laws.specs.All.{all};
 ghost use Rattle.store_layout.specs.Layout.{long, entry_at, store_length};
 ghost use Rattle.store_layout.specs.Sound.{sound_station, sound_order};
 
-use store_blocks::is_block;
+use crate::blocks::is_block;
 use store_fields::is_entry;
 use store_numbers::at::{ROW_IN, SETTLED_IN, block_at, entry_at};
 use store_numbers::read::{long_at, word_at};

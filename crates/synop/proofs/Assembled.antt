@@ -11,7 +11,7 @@ use Rattle.refusals.specs.Refusals.{number}
 use Rattle.refusals.specs.declared.Refusal.{Refusal}
 use Rattle.refusals.specs.declared.Refusal.TheVariants as why
 use Rattle.synop_text.specs.Kinds.{tokens}
-use Rattle.synop_bytes.specs.Bytes.{check1, check2, of_bytes}
+use Rattle.synop_checks.specs.Bytes.{check1, check2, of_bytes}
 use Rattle.synop_checks.specs.Refusal.{of_groups, refusal}
 use Rattle.synop.specs.Report.{refused, read, report}
 

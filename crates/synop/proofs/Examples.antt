@@ -9,22 +9,22 @@ use Prim.Native.Char.{code}
 use Prim.Native.String.{String, len, char_at}
 use lib.IntN.{pos}
 use Rattle.laws.specs.Table.{table}
-use Rattle.synop_codes.specs.Tables as tables
-use Rattle.synop_figures.specs.Digits.{two, three, four}
-use Rattle.synop_figures.specs.Elements as elements
-use Rattle.synop_figures.specs.Indicators as indicators
-use Rattle.synop_figures.specs.OneGroup as group
-use Rattle.synop_codes.specs.Value.{Value, missing, read, humidity}
+use Rattle.synop_values.specs.Tables as tables
+use Rattle.synop_values.specs.Digits.{two, three, four}
+use Rattle.synop_values.specs.Elements as elements
+use Rattle.synop_values.specs.Indicators as indicators
+use Rattle.synop_values.specs.OneGroup as group
+use Rattle.synop_values.specs.Value.{Value, missing, read, humidity}
 use Rattle.synop_text.specs.Characters.{are_figures}
 use Rattle.synop_text.specs.Groups.{cut}
 use Rattle.synop_text.specs.Kinds as kinds
 use Rattle.synop_text.specs.Kinds.{characters_of}
-use Rattle.synop_order.specs.Places as places
-use Rattle.synop_bytes.specs.Bytes.{ended, check1, is_known, check2}
+use Rattle.synop_text.specs.Places as places
+use Rattle.synop_checks.specs.Bytes.{ended, check1, is_known, check2}
 use Rattle.synop_checks.specs.Shapes.{are_digits, shaped_from}
 use Rattle.synop_checks.specs.Ranges.{is_day, is_hour, is_unit, is_time, is_station, ranged_from}
 use Rattle.synop_checks.specs.Refusal.{of_groups, refusal}
-use Rattle.synop_contents.specs.Contents as contents
+use Rattle.synop.specs.Contents as contents
 use Rattle.synop_parts.specs.Parts as parts
 use Rattle.synop.specs.Report as reports
 use Rattle.synop.specs.Report.{Report, whole, report}

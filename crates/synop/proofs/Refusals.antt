@@ -10,10 +10,10 @@ use Rattle.synop_text.specs.Kinds.{tokens}
 use Rattle.std.specs.Prelude.{Option}
 use Rattle.synop_text.specs.declared.Characters.{Characters}
 use Rattle.synop_text.specs.declared.Group.{Group}
-use Rattle.synop_order.specs.Places.{is_nil, final}
+use Rattle.synop_text.specs.Places.{is_nil, final}
 use Rattle.synop_checks.specs.Refusal.{refusal}
-use Rattle.synop_order.specs.declared.Place.{Place}
-use Rattle.synop_order.specs.declared.Place.TheVariants.{Start}
+use Rattle.synop_text.specs.declared.order.Place.{Place}
+use Rattle.synop_text.specs.declared.order.Place.TheVariants.{Start}
 use Rattle.synop_parts.specs.Parts.{parts}
 use Rattle.synop.specs.Report.{Report, refused, nil, whole, content, read, report, passed}
 use Rattle.synop.specs.declared.Report as code

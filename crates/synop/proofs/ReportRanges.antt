@@ -9,7 +9,7 @@ use lib.Dec.{T, leb, eqb, lit≤}
 use borrow.Author.Tests.{leb-true, leb-false, eqb-true, eqb-false}
 use Rattle.laws.specs.Table.{table}
 use Rattle.laws.proofs.Bools.{and_left, and_right, Known, is_true, is_false, known}
-use Rattle.synop_figures.specs.Digits.{digit, two, three, four, given}
+use Rattle.synop_values.specs.Digits.{digit, two, three, four, given}
 use Rattle.laws.proofs.Bools.{by_cond}
 use Rattle.std.specs.Prelude.{Option, Some, None}
 use Rattle.synop_text.specs.Characters.{is_digit}
@@ -17,22 +17,22 @@ use Rattle.synop_text.specs.Kinds.{tokens, characters_of}
 use Rattle.synop_text.specs.declared.Characters.{Characters}
 use Rattle.synop_text.specs.declared.Group.{Group}
 use Rattle.synop_text.specs.declared.Group.TheVariants.{Other, Aaxx, Nil, Section, Five}
-use Rattle.synop_bytes.specs.Bytes.{check1, check2}
-use Rattle.synop_order.specs.Places as places
-use Rattle.synop_order.specs.Places.{final, check5}
+use Rattle.synop_checks.specs.Bytes.{check1, check2}
+use Rattle.synop_text.specs.Places as places
+use Rattle.synop_text.specs.Places.{final, check5}
 use Rattle.synop_checks.specs.Shapes.{are_digits, shaped_from, check3}
 use Rattle.synop_checks.specs.Ranges.{is_day, is_hour, is_unit, is_time, is_station, ranged_from, check4}
 use Rattle.synop_checks.specs.Refusal.{of_groups, refusal}
-use Rattle.synop_order.specs.declared.Place.{Place}
-use Rattle.synop_order.specs.declared.Place.TheVariants.{Start, Station}
+use Rattle.synop_text.specs.declared.order.Place.{Place}
+use Rattle.synop_text.specs.declared.order.Place.TheVariants.{Start, Station}
 use Rattle.synop_parts.specs.Parts as parts
 use Rattle.synop_parts.specs.Parts.{part, first}
 use Rattle.synop_parts.specs.declared.Part.TheVariants as which
-use Rattle.synop_contents.specs.Contents.{number_of, two_of, station_of, identification_of}
-use Rattle.synop_contents.proofs.Numbers.{four_number, digit_number}
-use Rattle.synop_contents.proofs.ContentRanges.{IndicatorsFit, ValuesFit, indicators_fit, values_fit}
+use Rattle.synop.specs.Contents.{number_of, two_of, station_of, identification_of}
+use Rattle.synop.proofs.Numbers.{four_number, digit_number}
+use Rattle.synop.proofs.ContentRanges.{IndicatorsFit, ValuesFit, indicators_fit, values_fit}
 use Rattle.synop.specs.Report.{Report, refused, nil, whole, rain_group, content, read, report}
-use Rattle.synop_contents.specs.declared.Identification.{Identification}
+use Rattle.synop.specs.declared.contents.Identification.{Identification}
 
 -- ---- the ranges
 -- IIiii 1 to 99999, YY 1 to 31, GG 0 to 23

@@ -19,12 +19,12 @@ use Rattle.synop_text.specs.Kinds.{tokens, characters_of}
 use Rattle.synop_text.specs.Walk.{Kind}
 use Rattle.synop_text.specs.declared.Group.{Group}
 use Rattle.synop_text.specs.declared.Characters.{Characters}
-use Rattle.synop_order.specs.Places.{begun, next, final, complete}
+use Rattle.synop_text.specs.Places.{begun, next, final, complete}
 use Rattle.synop_checks.specs.Shapes.{shaped, shaped_from, check3}
 use Rattle.synop_checks.specs.Ranges.{ranged, ranged_from, check4}
 use Rattle.synop_checks.specs.Refusal.{of_groups}
-use Rattle.synop_order.specs.declared.Place.{Place}
-use Rattle.synop_order.specs.declared.Place.TheVariants.{Start}
+use Rattle.synop_text.specs.declared.order.Place.{Place}
+use Rattle.synop_text.specs.declared.order.Place.TheVariants.{Start}
 use Rattle.synop_parts.specs.declared.Part.{Part}
 use Rattle.synop_parts.specs.Parts as parts_of
 use Rattle.synop_parts.specs.Parts.{count, part_of, keep, only, first, parts}

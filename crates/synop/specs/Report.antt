@@ -4,20 +4,20 @@ use Rattle.std.specs.Prelude.{Bool, cond, ◌&&◌, List, ℕ, eqb, Option, Resu
 use Rattle.std.specs.Option.{option_or}
 use Rattle.refusals.specs.Refusals.{number}
 use Rattle.refusals.specs.declared.Refusal as why
-use Rattle.synop_codes.specs.Value as codes
+use Rattle.synop_values.specs.Value as codes
 use Rattle.synop_text.specs.Kinds.{tokens}
 use Rattle.synop_text.specs.declared.Characters.{Characters}
 use Rattle.synop_text.specs.declared.Group.{Group}
-use Rattle.synop_order.specs.Places.{begun, is_nil, final, complete}
+use Rattle.synop_text.specs.Places.{begun, is_nil, final, complete}
 use Rattle.synop_checks.specs.Refusal.{refusal}
-use Rattle.synop_order.specs.declared.Place.{Place}
-use Rattle.synop_order.specs.declared.Place.TheVariants.{Start}
+use Rattle.synop_text.specs.declared.order.Place.{Place}
+use Rattle.synop_text.specs.declared.order.Place.TheVariants.{Start}
 use Rattle.synop_parts.specs.Parts as parts
 use Rattle.synop_parts.specs.Parts.{part}
 use Rattle.synop_parts.specs.declared.Part.TheVariants as which
-use Rattle.synop_contents.specs.Contents.{identification_of, indicators_of, values_of, listed}
-use Rattle.synop_contents.specs.declared.Identification.{Identification}
-use Rattle.synop_contents.specs.declared.Indicators.{Indicators}
+use Rattle.synop.specs.Contents.{identification_of, indicators_of, values_of, listed}
+use Rattle.synop.specs.declared.contents.Identification.{Identification}
+use Rattle.synop.specs.declared.contents.Indicators.{Indicators}
 use Rattle.synop.specs.declared.Report as code
 use Rattle.synop.specs.declared.Report.TheVariants.{Nil, Whole}
 

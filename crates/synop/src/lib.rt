@@ -1,6 +1,8 @@
 // A SYNOP report read: from the bytes of a text to why it is refused, or to its station, day and hour and, unless it is `NIL`, its
-// indicators and its nine values.
+// indicators and its nine values. What the groups hold is the matter of `contents`.
 #![tactic(auto)]
+
+pub mod contents;
 
 ghost use Rattle.std.specs.Prelude.{◌≡◌, true};
 ghost use Rattle.synop_text.specs.Kinds.{tokens};
@@ -8,11 +10,11 @@ ghost use Rattle.refusals.specs.Refusals.{number_or_zero};
 ghost use Rattle.synop_checks.specs.Refusal as checks;
 ghost use Rattle.synop.specs.Report as reports;
 
+use crate::contents::{Identification, Indicators, Values};
 use refusals::Refusal;
-use synop_contents::{Identification, Indicators, Values};
-use synop_order::Place;
 use synop_parts::{Part, Parts};
 use synop_text::Cursor;
+use synop_text::order::Place;
 
 // What a report says that passes: nothing, or all of it.
 #[derive(Clone, Copy)]
@@ -26,15 +28,15 @@ pub enum Report {
 fn content(p: Place, kept: &Parts) -> Report
     ensures { reports.passed result ≡ reports.content p kept.now.groups }
 {
-    let identification = synop_contents::identification_of(
+    let identification = crate::contents::identification_of(
         kept.of(Part::Time),
         kept.of(Part::Station),
     );
-    if synop_order::is_nil(p) {
+    if synop_text::order::is_nil(p) {
         return Report::Nil(identification);
     }
     let rain = kept.of(Part::Rain).or(kept.of(Part::LaterRain));
-    let indicators = synop_contents::indicators_of(
+    let indicators = crate::contents::indicators_of(
         kept.of(Part::Visibility),
         kept.of(Part::Wind),
         rain,
@@ -42,7 +44,7 @@ fn content(p: Place, kept: &Parts) -> Report
     Report::Whole(
         identification,
         indicators,
-        synop_contents::values_of(kept, rain),
+        crate::contents::values_of(kept, rain),
     )
 }
 
@@ -52,13 +54,13 @@ fn content(p: Place, kept: &Parts) -> Report
 fn answer(p: Place, ranged: bool, kept: &Parts) -> Result<Report, Refusal>
     ensures { reports.meaning result ≡ reports.answered p true ranged kept.now.groups }
 {
-    if !synop_order::begun(p) {
+    if !synop_text::order::begun(p) {
         return Err(Refusal::Shape);
     }
     if !ranged {
         return Err(Refusal::OutOfRange);
     }
-    if !synop_order::complete(p) {
+    if !synop_text::order::complete(p) {
         return Err(Refusal::Order);
     }
     Ok(content(p, kept))
@@ -80,7 +82,7 @@ fn walk(text: &[u8]) -> Result<Report, Refusal>
             return Err(Refusal::Shape);
         }
         ranged &= synop_checks::ranged(place, g);
-        place = synop_order::next(place, g);
+        place = synop_text::order::next(place, g);
         kept.keep(place, g);
         cursor = next;
     }
@@ -92,7 +94,7 @@ fn walk(text: &[u8]) -> Result<Report, Refusal>
 pub fn read(text: &[u8]) -> Result<Report, Refusal>
     ensures { reports.meaning result ≡ reports.report text.now }
 {
-    synop_bytes::of_bytes(text)?;
+    synop_checks::bytes::of_bytes(text)?;
     walk(text)
 }
 

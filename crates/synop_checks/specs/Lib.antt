@@ -2,3 +2,5 @@
 pub mod Shapes
 pub mod Ranges
 pub mod Refusal
+-- Document 01's checks 1 and 2.
+pub mod Bytes

@@ -1,13 +1,13 @@
 -- Check 4, the heading's ranges: "YY not 01-31, GG not 00-23, iw not 0, 1, 3, 4, IIiii 00000".
 -- Assumes nothing.
 use Rattle.std.specs.Prelude.{Bool, true, false, not, ◌&&◌, ◌||◌, List, [], ◌∷◌, ℕ, leb, eqb}
-use Rattle.synop_figures.specs.Digits.{two, given}
+use Rattle.synop_values.specs.Digits.{two, given}
 use Rattle.synop_text.specs.declared.Characters.{Characters}
 use Rattle.synop_text.specs.declared.Group.{Group}
 use Rattle.synop_text.specs.Kinds.{on_five}
-use Rattle.synop_order.specs.declared.Place.{Place}
-use Rattle.synop_order.specs.declared.Place.TheVariants.{Start, Letters, Time}
-use Rattle.synop_order.specs.Places.{next}
+use Rattle.synop_text.specs.declared.order.Place.{Place}
+use Rattle.synop_text.specs.declared.order.Place.TheVariants.{Start, Letters, Time}
+use Rattle.synop_text.specs.Places.{next}
 
 -- YY 01 to 31
 unfoldable pub is_day : ℕ → ℕ → Bool

@@ -3,10 +3,10 @@
 use Rattle.std.specs.Prelude.{cond, List, ℕ}
 use Rattle.synop_text.specs.Kinds.{tokens}
 use Rattle.synop_text.specs.declared.Group.{Group}
-use Rattle.synop_bytes.specs.Bytes.{check1, check2}
+use Rattle.synop_checks.specs.Bytes.{check1, check2}
 use Rattle.synop_checks.specs.Shapes.{check3}
 use Rattle.synop_checks.specs.Ranges.{check4}
-use Rattle.synop_order.specs.Places.{check5}
+use Rattle.synop_text.specs.Places.{check5}
 
 -- the number of the first of checks 3, 4 and 5 that fails, or 0
 unfoldable pub of_groups : List Group → ℕ

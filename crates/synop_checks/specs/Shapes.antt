@@ -7,9 +7,9 @@ use Rattle.synop_text.specs.declared.Characters.{Characters}
 use Rattle.synop_text.specs.declared.Group.{Group}
 use Rattle.synop_text.specs.Kinds.{on_five}
 use Rattle.synop_text.specs.declared.Group.TheVariants.{Other, Aaxx, Nil}
-use Rattle.synop_order.specs.declared.Place.{Place}
-use Rattle.synop_order.specs.declared.Place.TheVariants.{Start, Letters, Time, Station, Nothing}
-use Rattle.synop_order.specs.Places.{begun, next}
+use Rattle.synop_text.specs.declared.order.Place.{Place}
+use Rattle.synop_text.specs.declared.order.Place.TheVariants.{Start, Letters, Time, Station, Nothing}
+use Rattle.synop_text.specs.Places.{begun, next}
 
 -- "first not `AAXX`"
 abbrev pub is_aaxx : Group → Bool

@@ -1,13 +1,15 @@
-// Document 01's checks 3 and 4 of one group after a place. Checks 1 and 2 are the matter of `synop_bytes`, 5 of `synop_order`.
+// Document 01's checks 1 and 2 of a text's bytes (`bytes`), and 3 and 4 of one group after a place. 5 is the matter of `synop_text::order`.
 #![tactic(auto)]
+
+pub mod bytes;
 
 ghost use Rattle.std.specs.Prelude.{true, false, ◌≡◌};
 ghost use Rattle.synop_checks.specs.Ranges as ranges;
 ghost use Rattle.synop_checks.specs.Shapes as shapes;
 
-use synop_figures::two;
-use synop_order::Place;
+use synop_text::order::Place;
 use synop_text::{Characters, Group, is_digit};
+use synop_values::figures::two;
 
 // ---- 3: a group's shape at its place
 

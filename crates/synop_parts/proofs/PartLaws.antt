@@ -16,9 +16,9 @@ use Rattle.synop_text.specs.declared.Characters.{Characters}
 use Rattle.synop_text.specs.Kinds.{characters_of}
 use Rattle.synop_text.specs.declared.Group.{Group}
 use Rattle.synop_text.specs.declared.Group.TheVariants.{Other, Aaxx, Nil, Section, Five}
-use Rattle.synop_order.specs.Places.{begun, aaxx_after, section_of, opened, next}
-use Rattle.synop_order.specs.declared.Place.{Place}
-use Rattle.synop_order.specs.declared.Place.TheVariants.{Station}
+use Rattle.synop_text.specs.Places.{begun, aaxx_after, section_of, opened, next}
+use Rattle.synop_text.specs.declared.order.Place.{Place}
+use Rattle.synop_text.specs.declared.order.Place.TheVariants.{Station}
 use Rattle.synop_parts.specs.declared.Part.{Part}
 use Rattle.synop_parts.specs.declared.Part.TheVariants as which
 use Rattle.synop_parts.specs.Parts.{number, count, of_later, part_of, keep, only, part}

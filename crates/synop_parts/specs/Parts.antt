@@ -6,9 +6,9 @@ use Rattle.laws.specs.Table.{table}
 use Rattle.synop_text.specs.Kinds.{on_five, characters_of}
 use Rattle.synop_text.specs.declared.Characters.{Characters}
 use Rattle.synop_text.specs.declared.Group.{Group}
-use Rattle.synop_order.specs.Places.{next}
-use Rattle.synop_order.specs.declared.Place.{Place}
-use Rattle.synop_order.specs.declared.Place.TheVariants.{Start, Time, Station, Visibility, Wind, Gale, One, Later}
+use Rattle.synop_text.specs.Places.{next}
+use Rattle.synop_text.specs.declared.order.Place.{Place}
+use Rattle.synop_text.specs.declared.order.Place.TheVariants.{Start, Time, Station, Visibility, Wind, Gale, One, Later}
 use Rattle.synop_parts.specs.declared.Part.{Part}
 use Rattle.synop_parts.specs.declared.Part.TheVariants as which
 

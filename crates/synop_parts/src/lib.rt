@@ -5,11 +5,11 @@ ghost use Rattle.std.specs.Prelude.{◌≡◌};
 ghost use Rattle.synop_text.specs.Kinds.{characters_of};
 ghost use Rattle.synop_parts.specs.Parts as parts;
 
-use synop_order::Place;
+use synop_text::order::Place;
 use synop_text::{Characters, Group, characters_of};
 
 // The parts of a report that are read, in the order that they are kept in.
-#[derive(Clone, Copy, Debug, PartialEq, Eq)]
+#[derive(Clone, Copy)]
 pub enum Part {
     // YYGGiw, IIiii, iRixhVV, Nddff, 00fff.
     Time,

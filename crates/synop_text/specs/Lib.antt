@@ -3,3 +3,5 @@ pub mod Characters
 pub mod Groups
 pub mod Kinds
 pub mod Walk
+-- The order of the groups of a report: document 01's check 5.
+pub mod Places

@@ -1,5 +1,8 @@
 // The text of a report as groups. A cursor walks the groups, one step a group, and each group is of a kind.
+// In what order the groups come, check 5, is the matter of `order`.
 #![tactic(auto)]
+
+pub mod order;
 
 ghost use Rattle.std.specs.Prelude.{◌≡◌, not};
 ghost use Rattle.std.specs.List.{position};
@@ -8,7 +11,7 @@ ghost use Rattle.synop_text.specs.Kinds as kinds;
 ghost use Rattle.synop_text.specs.Walk.{Stepped, Taken};
 
 // The five characters of a group.
-#[derive(Clone, Copy, Debug, PartialEq, Eq)]
+#[derive(Clone, Copy, PartialEq, Eq)]
 pub struct Characters {
     pub a: u8,
     pub b: u8,
@@ -18,7 +21,7 @@ pub struct Characters {
 }
 
 // What kind of group it is.
-#[derive(Clone, Copy, Debug, PartialEq, Eq)]
+#[derive(Clone, Copy)]
 pub enum Group {
     // None of the kinds below; a case and no `None`, since it is one of the text's groups as well.
     Other,
@@ -31,7 +34,7 @@ pub enum Group {
 }
 
 // Where a group stands in the text: from `start` up to `end`.
-#[derive(Clone, Copy, Debug, PartialEq, Eq)]
+#[derive(Clone, Copy)]
 pub struct Span {
     pub start: usize,
     pub end: usize,

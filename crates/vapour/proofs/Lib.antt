@@ -5,3 +5,6 @@ pub mod Rule
 pub mod Lookup
 pub mod FilledSlice
 pub mod Examples
+-- Laws of the generator: the recurrence as the code has it.
+pub mod Terms
+pub mod Index

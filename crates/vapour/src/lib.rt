@@ -1,7 +1,9 @@
 // The vapour pressure at a dew point in tenths of a degree, looked up in a table (`table`). What the table looks like is known here
-// alone. The crate `vapour_generator` computes the table's numbers.
+// alone. `generator` computes the table's numbers.
 #![tactic(auto)]
 
+pub mod generator;
+mod recurrence;
 mod table;
 
 ghost use Rattle.std.specs.Prelude.{◌≡◌, map};
@@ -11,7 +13,7 @@ pub use table::PLACES;
 use table::Table;
 
 // Why a slice is not filled with the table: this length is needed.
-#[derive(Clone, Copy, Debug, PartialEq, Eq)]
+#[derive(Clone, Copy)]
 pub struct LengthNeeded(pub u32);
 
 // The vapour pressures at nine dew points, or temperatures in their place.

@@ -4,7 +4,7 @@
 
 use std::io;
 use vapour::PLACES;
-use vapour_generator::fill;
+use vapour::generator::fill;
 
 // The numbers in decimal, one a line, up to one that was not written.
 fn print_lines(rt: &impl Print, numbers: &[u16]) -> io::Result<()> {

@@ -17,6 +17,11 @@
 //! Each is printed with the call's answer and with what the call did to the buffer. A cell is its state, flag and value. A
 //! day line: the means of T, D, P, W, C and vapour pressure (`-` absent, read or mended, in eighths), the rain, the warmest
 //! and the coldest slot, and the counts of cells read, corrected, filled and missing.
+//!
+//! Two more have lines of another form: texts and what each says (`texts`), and cells through the checks (`cells`).
+
+pub mod cells;
+pub mod texts;
 
 use crate::calls::Calls;
 use crate::generate::stores::Opening;
@@ -48,9 +53,13 @@ pub fn transcript(calls: &dyn Calls, lines: &str) -> Vec<String> {
     lines.lines().map(&mut print).collect()
 }
 
-/// How many lines are printed, and those that differ from what is expected.
+/// The transcript of the lines, compared with what is expected.
 pub fn check(calls: &dyn Calls, lines: &str, expected: &str) -> (usize, Vec<String>) {
-    let printed = transcript(calls, lines);
+    compared_lines(&transcript(calls, lines), expected)
+}
+
+/// How many lines are printed, and those that differ from what is expected.
+pub fn compared_lines(printed: &[String], expected: &str) -> (usize, Vec<String>) {
     let mut expected = expected.lines();
     let mut differences = Vec::new();
     for (i, line) in printed.iter().enumerate() {

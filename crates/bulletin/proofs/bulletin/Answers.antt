@@ -4,7 +4,7 @@ use lib.ListN.{length, drop, length-drop}
 use borrow.Author.Tests.{le-leb, lt-leb}
 use Rattle.std.proofs.lemmas.Result.{err_from_is_err_and}
 use Rattle.laws.proofs.Bools.{via}
-use Rattle.bulletin_text.specs.Pieces.{parted}
+use Rattle.bulletin.specs.Pieces.{parted}
 use Rattle.bulletin.proofs.Reports.{onward}
 use Rattle.bulletin.proofs.Results.{short, front_of, headed_as, headed_refused, gave_unsound, gave_high, gave_long, gave_faulty, gave_counts}
 use Rattle.bulletin.proofs.bulletin.Goals as goal

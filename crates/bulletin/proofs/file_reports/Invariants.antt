@@ -1,6 +1,6 @@
 -- `bulletin::file_reports` meets its contract. The invariant: what is left gives what was asked at the start.
 use lib.ListN.{length}
-use Rattle.bulletin_text.specs.Rebuilt.{heading}
+use Rattle.bulletin.specs.Rebuilt.{heading}
 use Rattle.bulletin.proofs.Reports.{Filing}
 use Rattle.bulletin.proofs.file_reports.Given as goal
 

@@ -2,7 +2,7 @@
 use mathlib.Core.Path.{sym, subst}
 use Rattle.rules.specs.Calls.{day}
 use Rattle.rules.specs.Step.{step}
-use Rattle.capi_arrays.specs.Arrays.{Small}
+use Rattle.capi.specs.Arrays.{Small}
 use Rattle.rules.proofs.Answers.{is_day}
 use Rattle.esfenruk.proofs.Within.{Modest, modest_step}
 use Rattle.esfenruk.proofs.Days.{line_same, returned_refused, returned_line}

@@ -7,6 +7,7 @@
 //! compare show FILE..: the same, printed as by trace.
 //! compare play FILE..: the calls written in the files with the answers expected (see `played`), on each of the two.
 //! compare transcript NAME..: what each of the two prints for the lines of NAME.in, beside NAME.out (see `transcript`).
+//! compare texts NAME.., compare cells NAME..: the same where the lines are texts or cells (`transcript::texts`, `cells`).
 //!
 //! The last line is 'N passed, M failed'; the status is 0 only where none failed.
 
@@ -36,6 +37,8 @@ fn main() -> ExitCode {
         Some("show") => return end(replay(&arguments[1..], &mut |file, heard| print_heard(&file, heard))),
         Some("play") => return end(on_both(&arguments[1..], play)),
         Some("transcript") => return end(on_both(&arguments[1..], print)),
+        Some("texts") => return end(on_both(&arguments[1..], texts)),
+        Some("cells") => return end(on_both(&arguments[1..], cells)),
         _ => {}
     }
     let number = |at: usize, default: u64| {
@@ -52,7 +55,7 @@ fn main() -> ExitCode {
 }
 
 fn usage() -> ExitCode {
-    eprintln!("usage: compare [CALLS [SEED [trace]]] | sweep [PART OF] | dayline PROGRAM [INPUTS [SEED]] | replay FILE.. | show FILE.. | play FILE.. | transcript NAME..");
+    eprintln!("usage: compare [CALLS [SEED [trace]]] | sweep [PART OF] | dayline PROGRAM [INPUTS [SEED]] | replay FILE.. | show FILE.. | play FILE.. | transcript|texts|cells NAME..");
     ExitCode::from(2)
 }
 
@@ -173,9 +176,24 @@ fn play(calls: &dyn Calls, file: &str) -> io::Result<(usize, Vec<String>)> {
     Ok(played::play(calls, &fs::read_to_string(file)?))
 }
 
+/// The lines of NAME.in, and what is to be printed for them.
+fn written(name: &str) -> io::Result<(Vec<u8>, String)> {
+    Ok((fs::read(format!("{name}.in"))?, fs::read_to_string(format!("{name}.out"))?))
+}
+
 fn print(calls: &dyn Calls, name: &str) -> io::Result<(usize, Vec<String>)> {
-    let [lines, expected] = ["in", "out"].map(|end| fs::read_to_string(format!("{name}.{end}")));
-    Ok(transcript::check(calls, &lines?, &expected?))
+    let (lines, expected) = written(name)?;
+    Ok(transcript::check(calls, &String::from_utf8_lossy(&lines), &expected))
+}
+
+fn texts(calls: &dyn Calls, name: &str) -> io::Result<(usize, Vec<String>)> {
+    let (lines, expected) = written(name)?;
+    Ok(transcript::texts::check(calls, &lines, &expected))
+}
+
+fn cells(calls: &dyn Calls, name: &str) -> io::Result<(usize, Vec<String>)> {
+    let (lines, expected) = written(name)?;
+    Ok(transcript::cells::check(calls, &String::from_utf8_lossy(&lines), &expected))
 }
 
 fn print_heard(from: &dyn std::fmt::Display, heard: Heard) {

@@ -6,8 +6,8 @@ use Rattle.laws.proofs.Tables.{is_table}
 use Rattle.quality.specs.Cell.{none, slot}
 use Rattle.quality.specs.Elements.{column}
 use Rattle.store_layout.specs.Layout.{decode_block}
-use Rattle.store_cells.specs.Areas.{sheet_in}
-use Rattle.store_cells.proofs.Sheets.{nine_cells}
+use Rattle.store_numbers.specs.Areas.{sheet_in}
+use Rattle.store_numbers.proofs.Sheets.{nine_cells}
 use Rattle.store_block.proofs.block.column_of.Goals as goal
 
 pub returns : goal.returns

@@ -2,10 +2,10 @@
 use mathlib.Core.Path.{◌∙◌, ap}
 use Rattle.quality.specs.Cell.{none}
 use Rattle.store_layout.specs.Layout.{decode_block}
-use Rattle.store_cells.specs.declared.Area.TheVariants.{Checked}
-use Rattle.store_cells.specs.Areas.{with_cell}
+use Rattle.store_numbers.specs.declared.area.Area.TheVariants.{Checked}
+use Rattle.store_numbers.specs.Areas.{with_cell}
 use Rattle.store_block.proofs.Filling.{begun, more, whole_list}
-use Rattle.store_cells.proofs.Sheets.{nine_cells, nine_columns, column_own, column_cell}
+use Rattle.store_numbers.proofs.Sheets.{nine_cells, nine_columns, column_own, column_cell}
 use Rattle.quality.specs.Coded.{cells}
 use Rattle.quality.proofs.Columns.{length_cells}
 use borrow.Author.Rules.{rules}

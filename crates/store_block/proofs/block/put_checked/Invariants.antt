@@ -4,8 +4,8 @@ use Rattle.quality.specs.Cell.{none, slot}
 use Rattle.quality.specs.Coded.{cells}
 use Rattle.quality.specs.Elements.{column}
 use Rattle.store_layout.specs.Layout.{decode_block}
-use Rattle.store_cells.specs.declared.Area.TheVariants.{Checked}
-use Rattle.store_cells.specs.Areas.{with_column}
+use Rattle.store_numbers.specs.declared.area.Area.TheVariants.{Checked}
+use Rattle.store_numbers.specs.Areas.{with_column}
 use Rattle.store_block.proofs.Filling.{Filling}
 use Rattle.store_block.proofs.block.put_checked.Given as goal
 

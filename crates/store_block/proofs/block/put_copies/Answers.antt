@@ -12,8 +12,8 @@ use Rattle.store_layout.specs.Layout.{head_at, decode_head, decode_block}
 use Rattle.store_layout.specs.Updates.{with_copy, with_copies}
 use Rattle.store_layout.proofs.Blocks.{head_of_block, shaped_read}
 use Rattle.store_block.specs.Coded.{copy_for}
-use Rattle.store_cells.specs.Areas.{with_head}
-use Rattle.store_cells.proofs.BlockWrites.{copy_put}
+use Rattle.store_numbers.specs.Areas.{with_head}
+use Rattle.store_numbers.proofs.BlockWrites.{copy_put}
 use Rattle.store_block.proofs.Filling.{begun, more, whole_list}
 use Rattle.store_block.proofs.block.put_copies.Goals as goal
 

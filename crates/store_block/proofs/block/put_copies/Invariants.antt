@@ -6,7 +6,7 @@ use Rattle.store_layout.specs.Model.{unfiled, head_of}
 use Rattle.store_layout.specs.Layout.{decode_block}
 use Rattle.store_layout.specs.Updates.{with_copy}
 use Rattle.store_block.specs.Coded.{copy_for}
-use Rattle.store_cells.specs.Areas.{with_heads}
+use Rattle.store_numbers.specs.Areas.{with_heads}
 use Rattle.store_block.proofs.Filling.{Filling}
 use Rattle.store_block.proofs.block.put_copies.Given as goal
 

@@ -3,10 +3,10 @@ use mathlib.Core.Path.{refl, sym, ◌∙◌, ap}
 use mathlib.Core.List.{[]}
 use Rattle.quality.specs.Coded.{cells, sheet}
 use Rattle.store_layout.specs.Updates.{with_checked}
-use Rattle.store_cells.specs.declared.Area.TheVariants.{Checked}
-use Rattle.store_cells.specs.Areas.{with_column}
+use Rattle.store_numbers.specs.declared.area.Area.TheVariants.{Checked}
+use Rattle.store_numbers.specs.Areas.{with_column}
 use Rattle.store_block.proofs.Filling.{begun, more, whole_list}
-use Rattle.store_cells.proofs.Sheets.{nine_columns}
+use Rattle.store_numbers.proofs.Sheets.{nine_columns}
 use Rattle.laws.proofs.Maps.{map_at}
 use lib.ListN.{length-map}
 use borrow.Author.Rules.{rules}

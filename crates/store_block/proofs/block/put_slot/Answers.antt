@@ -9,11 +9,11 @@ use Rattle.quality.specs.Cell.{slot}
 use Rattle.quality.specs.Elements.{column}
 use Rattle.store_layout.specs.Model.{Block}
 use Rattle.store_layout.specs.Updates.{with_slot}
-use Rattle.store_cells.specs.declared.Area.TheVariants.{Raw}
-use Rattle.store_cells.specs.Areas.{with_sheet, with_cell}
-use Rattle.store_cells.proofs.BlockWrites.{head_put}
+use Rattle.store_numbers.specs.declared.area.Area.TheVariants.{Raw}
+use Rattle.store_numbers.specs.Areas.{with_sheet, with_cell}
+use Rattle.store_numbers.proofs.BlockWrites.{head_put}
 use Rattle.store_block.proofs.Filling.{begun, more, whole}
-use Rattle.store_cells.proofs.Sheets.{nine_columns}
+use Rattle.store_numbers.proofs.Sheets.{nine_columns}
 use Rattle.store_block.proofs.block.put_slot.Goals as goal
 
 pub loop-e-init : goal.loop-e-init

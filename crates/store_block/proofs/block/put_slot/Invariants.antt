@@ -5,8 +5,8 @@ use lib.ListN.{set}
 use Rattle.quality.specs.Cell.{slot}
 use Rattle.quality.specs.Elements.{column}
 use Rattle.store_layout.specs.Layout.{decode_block}
-use Rattle.store_cells.specs.declared.Area.TheVariants.{Raw}
-use Rattle.store_cells.specs.Areas.{with_sheet}
+use Rattle.store_numbers.specs.declared.area.Area.TheVariants.{Raw}
+use Rattle.store_numbers.specs.Areas.{with_sheet}
 use Rattle.store_block.proofs.Filling.{Filling}
 use Rattle.store_block.proofs.block.put_slot.Given as goal
 

@@ -1,2 +1,0 @@
--- Laws that the proof of `file_report` cites.
-pub mod Filing

@@ -1,2 +1,0 @@
--- One report of a bulletin, filed.
-pub mod Filed

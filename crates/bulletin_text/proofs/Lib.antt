@@ -1,3 +1,0 @@
--- Laws that the proofs of bulletins cite.
-pub mod Cuts
-pub mod Squeezed

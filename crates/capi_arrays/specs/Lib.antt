@@ -1,2 +1,0 @@
--- A day line as arrays of numbers.
-pub mod Arrays

@@ -1,2 +1,0 @@
--- What the numbers say that the calls for C and Rust return.
-pub mod Numbers

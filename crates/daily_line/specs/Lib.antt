@@ -1,0 +1,3 @@
+-- What the functions of `means` and of `rain` answer; the rules are `daily`'s.
+pub mod MeanParts
+pub mod RainParts

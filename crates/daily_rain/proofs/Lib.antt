@@ -1,2 +1,0 @@
--- Laws of the day's rain.
-pub mod Amounts

@@ -1,4 +1,0 @@
--- Laws of the cut into reports, of filing them, and of a station's line.
-pub mod Cutting
-pub mod Filing
-pub mod Stations

@@ -1,6 +1,0 @@
--- `dayline_input::first_line` meets its contract. The invariant: the line has the bytes of whole pieces without an LF.
-use Rattle.dayline_input.specs.Input.{Unended}
-use Rattle.dayline_input.proofs.first_line.Given as goal
-
-abbrev pub invariant-loop : goal.invariant-loop
-invariant-loop l = Unended l.line

@@ -1,2 +1,0 @@
--- Where the program `dayline` stands in its input.
-pub mod Input

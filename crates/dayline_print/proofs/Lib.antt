@@ -1,3 +1,0 @@
--- Laws of the printed lines.
-mod Printing
-mod Examples

@@ -1,2 +1,0 @@
--- The lines that the program `dayline` prints.
-pub mod Printed

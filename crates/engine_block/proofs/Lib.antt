@@ -1,2 +1,0 @@
--- A step on a block, as the code makes it.
-pub mod Cleared

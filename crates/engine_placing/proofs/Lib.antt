@@ -1,2 +1,0 @@
--- Laws on a report put in its slot.
-pub mod Placed

@@ -1,2 +1,0 @@
--- A station settled in portions, as the code makes it.
-pub mod Portions

@@ -1,3 +1,0 @@
--- Laws that this crate's proofs cite.
-pub mod Sounds
-pub mod Nines

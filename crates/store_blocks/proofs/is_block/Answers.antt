@@ -1,7 +1,0 @@
--- `store_blocks::is_block` meets its contract.
-use Rattle.laws.proofs.Bools.{and_eq}
-use Rattle.store_blocks.proofs.Sounds.{block_in_turn}
-use Rattle.store_blocks.proofs.is_block.Goals as goal
-
-pub returns : goal.returns
-returns c = rw block_in_turn (and_eq (and_eq c.are_heads.ensures c.are_cells.ensures) c.are_cells-2.ensures)

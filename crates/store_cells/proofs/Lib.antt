@@ -1,3 +1,0 @@
--- Laws that this crate's proofs, and those of `store_block`, cite.
-pub mod BlockWrites
-pub mod Sheets

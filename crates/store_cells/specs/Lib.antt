@@ -1,2 +1,0 @@
--- A block's two sheets.
-pub mod Areas

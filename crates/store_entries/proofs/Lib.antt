@@ -1,2 +1,0 @@
--- A law that this crate's proofs cite.
-pub mod Marks

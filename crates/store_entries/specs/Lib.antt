@@ -1,2 +1,0 @@
--- The settled number written.
-pub mod Marked

@@ -1,2 +1,0 @@
--- Laws of the two checks.
-mod Reading

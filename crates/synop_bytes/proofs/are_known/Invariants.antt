@@ -1,6 +1,0 @@
--- `synop_bytes::are_known` meets its contract. The invariant: the bytes read so far are known or not.
-use Rattle.synop_bytes.proofs.Reading.{Knowing}
-use Rattle.synop_bytes.proofs.are_known.Given as goal
-
-abbrev pub invariant-loop-b : goal.invariant-loop-b
-invariant-loop-b l = Knowing l.s l.known l.b-index

@@ -1,0 +1,2 @@
+-- Laws of checks 1 and 2.
+mod Reading

@@ -1,2 +1,0 @@
--- Laws of the code tables: the bounds that callers cite.
-pub mod CodeRanges

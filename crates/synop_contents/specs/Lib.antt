@@ -1,2 +1,0 @@
--- What the groups of a report hold.
-pub mod Contents

@@ -1,2 +1,0 @@
--- Laws of writing behind a text of fixed room.
-pub mod Writing

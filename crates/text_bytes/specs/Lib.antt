@@ -1,2 +1,0 @@
--- Texts of fixed room: bytes written behind them.
-pub mod Written

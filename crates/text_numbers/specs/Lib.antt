@@ -1,2 +1,0 @@
--- Numbers in decimal.
-pub mod Numbers
