@@ -1,6 +1,6 @@
 /* The rain of a day at a station that drops group 6 where no rain has fallen, and says so by iR 3, the first figure of
    iRixhVV. Each line is a day of its own: what was reported for 12, 18 and 06 UTC, and the total.
-   cc -I include examples/dry.c crates/esfenruk/out/libesfenruk.a -o target/dry */
+   cc -Iinclude examples/dry.c target/staticlib/libesfenruk.a -o target/dry */
 #include "esfenruk.h"
 #include <inttypes.h>
 #include <stdio.h>
@@ -8,32 +8,31 @@
 
 static uint8_t store[ESFENRUK_LENGTH(1)];
 
-/* The day line's numbers for the reports of a day; 0 or the refusal's number. */
-static uint32_t line(const char *const reports[3], int32_t numbers[14])
+/* The day line for the reports of a day; 0 or the refusal's number. */
+static uint32_t day(const char *const reports[3], struct esfenruk_day_line *line)
 {
     const uint32_t station = 40001;
-    const uint16_t row = 0;
-    double means[6];
+    const uint16_t row = ESFENRUK_ROW_LOWLAND;
 
     uint32_t refused = esfenruk_open(store, sizeof store, 2024, 4, 11, &station, 1, &row, 1);
     for (int i = 0; i < 3 && !refused; i++)
-        refused = esfenruk_file(store, sizeof store, (const uint8_t *)reports[i], strlen(reports[i]), 0);
+        refused = esfenruk_file(store, sizeof store, reports[i], strlen(reports[i]), ESFENRUK_ORDINARY);
     if (!refused)
         refused = esfenruk_settle(store, sizeof store, station);
-    return refused ? refused : esfenruk_day(store, sizeof store, station, means, numbers);
+    return refused ? refused : esfenruk_get_day(store, sizeof store, station, line);
 }
 
 static int show(const char *what, const char *noon, const char *evening, const char *morning)
 {
     const char *const reports[3] = {noon, evening, morning};
-    int32_t numbers[14];
+    struct esfenruk_day_line line;
 
-    uint32_t refused = line(reports, numbers);
+    uint32_t refused = day(reports, &line);
     printf("%-41s ", what);
     if (refused)
-        printf("refused %" PRIu32 "\n", refused);
-    else if (numbers[6])
-        printf("%.1f mm\n", numbers[7] / 10.0);
+        printf("refused %" PRIu32 ": %s\n", refused, esfenruk_meaning(refused));
+    else if (line.has_rain)
+        printf("%.1f mm\n", line.rain / 10.0);
     else
         printf("no total\n");
     return refused != 0;

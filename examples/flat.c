@@ -1,48 +1,45 @@
 /* The warmest and the coldest hour of days on which hours are equally warm: of these the warmest is the latest and the coldest
    the earliest. Each line is a day of its own: the temperatures at 06, 09 .. 21, 00 and 03 UTC, and the two hours.
-   cc -I include examples/flat.c crates/esfenruk/out/libesfenruk.a -o target/flat */
+   cc -Iinclude examples/flat.c target/staticlib/libesfenruk.a -o target/flat */
 #include "esfenruk.h"
 #include <inttypes.h>
 #include <stdio.h>
 #include <stdlib.h>
 #include <string.h>
 
-/* The hour of slot k, 0 to 8. */
-static int hour(int k)
-{
-    return (6 + 3 * k) % 24;
-}
-
-/* The day line's numbers for temperatures in tenths of a degree; 0 or the refusal's number. */
-static uint32_t line(const int t[8], int32_t numbers[14])
+/* The day line for temperatures in tenths of a degree; 0 or the refusal's number. */
+static uint32_t day(const int t[8], struct esfenruk_day_line *line)
 {
     static uint8_t store[ESFENRUK_LENGTH(1)];
     const uint32_t station = 40001;
-    const uint16_t row = 0;
-    double means[6];
+    const uint16_t row = ESFENRUK_ROW_LOWLAND;
     char text[64];
 
     uint32_t refused = esfenruk_open(store, sizeof store, 2024, 4, 11, &station, 1, &row, 1);
     for (int k = 0; k < 8 && !refused; k++) {
-        snprintf(text, sizeof text, "AAXX %02d%02d1 40001 42360 62704 1%d%03d=", k < 6 ? 11 : 12, hour(k), t[k] < 0, abs(t[k]) % 1000);
-        refused = esfenruk_file(store, sizeof store, (const uint8_t *)text, strlen(text), 0);
+        const int day_of_month = k < 6 ? 11 : 12, sign = t[k] < 0;
+
+        snprintf(text, sizeof text, "AAXX %02d%02d1 40001 42360 62704 1%d%03d=", day_of_month, esfenruk_hour(k), sign, abs(t[k]) % 1000);
+        refused = esfenruk_file(store, sizeof store, text, strlen(text), ESFENRUK_ORDINARY);
     }
     if (!refused)
         refused = esfenruk_settle(store, sizeof store, station);
-    return refused ? refused : esfenruk_day(store, sizeof store, station, means, numbers);
+    return refused ? refused : esfenruk_get_day(store, sizeof store, station, line);
 }
 
 static int show(const int t[8])
 {
-    int32_t numbers[14];
+    struct esfenruk_day_line line;
 
-    uint32_t refused = line(t, numbers);
+    uint32_t refused = day(t, &line);
     for (int k = 0; k < 8; k++)
         printf("%5.1f", t[k] / 10.0);
     if (refused)
-        printf("  refused %" PRIu32 "\n", refused);
+        printf("  refused %" PRIu32 ": %s\n", refused, esfenruk_meaning(refused));
+    else if (line.warmest < 0)
+        printf("  no temperature\n");
     else
-        printf("  warmest %02d UTC, coldest %02d UTC\n", hour(numbers[8]), hour(numbers[9]));
+        printf("  warmest %02d UTC, coldest %02d UTC\n", esfenruk_hour(line.warmest), esfenruk_hour(line.coldest));
     return refused != 0;
 }
 

@@ -1,5 +1,5 @@
 /* The vapour table by the library's generator, printed as the program vapour_table prints it: one number a line.
-   cc -I include examples/vapour_table.c crates/esfenruk/out/libesfenruk.a -o target/vapour_table */
+   cc -Iinclude examples/vapour_table.c target/staticlib/libesfenruk.a -o target/vapour_table */
 #include "esfenruk.h"
 #include <inttypes.h>
 #include <stdio.h>

@@ -1,8 +1,9 @@
 #!/usr/bin/env python3
-"""Builds the library for C and Rust, crates/esfenruk/out/libesfenruk.a, over the libraries that `rt ci` proved and left in crates/*/out.
+"""Builds the library, target/staticlib/libesfenruk.a, over the libraries that `rt ci` proved and left in crates/*/out.
 
-Run it at the project's root, right after `rt ci`. The crate esfenruk alone is proved once more. `rt lib` in crates/esfenruk makes the same
-archive, and first proves each library below it again, one after the other, since it takes nothing from `rt ci`.
+Run it at the project's root, right after `rt ci`; the gate, `bash .ci/run`, does both. The crate esfenruk alone is proved once more. `rt lib`
+in crates/esfenruk makes the same archive in a folder of its own, and first proves each library below it again, one after the other, since it
+takes nothing from `rt ci`.
 """
 import argparse
 import os
@@ -29,14 +30,15 @@ def below(crate, uses):
 def main():
     kit = os.path.dirname(subprocess.check_output(["rt", "doc"], text=True).strip())
     asked = argparse.ArgumentParser(description="Builds the library over what rt ci proved.")
-    asked.add_argument("archive", nargs="?", default=f"crates/{NAME}/out/lib{NAME}.a", help="where to write it; if not told otherwise %(default)s")
+    asked.add_argument("archive", nargs="?", default=f"target/staticlib/lib{NAME}.a", help="where to write it; if not told otherwise %(default)s")
     asked.add_argument("--toolchain", default=f"{kit}/toolchain", help="the folder of the compiler; if not told otherwise the kit's")
     asked = asked.parse_args()
     uses = libraries()
     folder = {name: os.path.abspath(f"crates/{name}/out/rlib") for name in below(NAME, uses)}
     missing = sorted(name for name in folder if not os.path.isdir(f"{folder[name]}/{name}.rlib"))
     if missing:
-        sys.exit(f"library.py: run rt ci first: nothing is built of {', '.join(missing)}")
+        names = ", ".join(missing)
+        sys.exit(f"library.py: nothing is built of {names}\nRun `bash .ci/run`, which builds the library too, or `rt ci` and then this again.")
     words = [f"{kit}/bin/rattle", "build", "--crate-name", NAME, "src/lib.rt", "--crate-type", "staticlib"]
     words += ["--extern", f"std={kit}/rlibs/std.rlib", "-L", f"dependency={kit}/rlibs"]
     for name in sorted(folder):
