@@ -1,8 +1,6 @@
 //! The calls as the C interface has them, for the reference and for the engine: 0 or the refusal's number (of
 //! the vapour table: the length needed), and arrays that only an answer of 0 writes to.
 
-#[cfg(feature = "engine")]
-use crate::engine::arrays;
 use crate::reference::{self, vapour, Cell, DayLine, Mean, Refusal};
 
 pub trait Calls {
@@ -99,47 +97,4 @@ fn day_arrays(line: &DayLine) -> ([f64; 6], [i32; 14]) {
         *number = count as i32;
     }
     (means, numbers)
-}
-
-/// The engine behind the C interface.
-#[cfg(feature = "engine")]
-pub struct Engine;
-
-#[cfg(feature = "engine")]
-impl Calls for Engine {
-    fn open(&self, store: &mut [u8], year: u32, month: u32, day: u32, stations: &[u32], rows: &[u16]) -> u32 {
-        arrays::open(store, year, month, day, stations, rows)
-    }
-
-    fn file(&self, store: &mut [u8], text: &[u8], rank: u32) -> u32 {
-        arrays::file(store, text, rank)
-    }
-
-    fn settle(&self, store: &mut [u8], station: u32) -> u32 {
-        arrays::settle(store, station)
-    }
-
-    fn begin(&self, store: &mut [u8], station: u32) -> u32 {
-        arrays::begin(store, station)
-    }
-
-    fn step(&self, store: &mut [u8], station: u32) -> u32 {
-        arrays::step(store, station)
-    }
-
-    fn cell(&self, store: &[u8], station: u32, element: u32, slot: u32, out: &mut [i32; 3]) -> u32 {
-        arrays::cell(store, station, element, slot, out)
-    }
-
-    fn day(&self, store: &[u8], station: u32, means: &mut [f64; 6], numbers: &mut [i32; 14]) -> u32 {
-        arrays::day(store, station, means, numbers)
-    }
-
-    fn bulletin(&self, store: &mut [u8], text: &[u8], rank: u32, counts: &mut [u32; 2]) -> u32 {
-        arrays::bulletin(store, text, rank, counts)
-    }
-
-    fn vapour_table(&self, entries: &mut [u16]) -> u32 {
-        arrays::vapour_table(entries)
-    }
 }

@@ -17,11 +17,17 @@ pub mod ties;
 pub mod transcript;
 
 #[cfg(feature = "engine")]
-pub mod engine;
-#[cfg(feature = "engine")]
 pub mod fence;
+#[cfg(feature = "library")]
+pub mod library;
 #[cfg(feature = "mock")]
 pub mod mock;
+
+/// The engine as it is compared (`Engine`), and its bare calls (`Arrays`).
+#[cfg(feature = "library")]
+pub use library::{Arrays, Engine};
+#[cfg(feature = "mock")]
+pub use mock::{Mock as Arrays, Mock as Engine};
 
 /// What stands behind the calls of `Engine`.
 #[cfg(feature = "engine")]

@@ -1,5 +1,4 @@
-//! A stand-in for libesfenruk.a: the reference behind the same C names, right or with one fault, to see
-//! that the comparison notices.
+//! A stand-in for libesfenruk.a: the reference, right or with one fault, to see that the comparison notices.
 
 mod dry;
 mod humidity;
@@ -13,7 +12,6 @@ use crate::reference::layout::{Field, Record, ENTRY, FLAG, HEADER, SETTLED, STAT
 use crate::reference::store;
 use humidity::humid_temperatures_read;
 use rank::heads_taken_for_sound;
-use std::slice;
 use std::sync::atomic::{AtomicUsize, Ordering};
 
 /// What the mock can do wrong; the first is nothing.
@@ -249,230 +247,166 @@ fn taken_for_sound(store: &[u8]) -> Option<Vec<u8>> {
     portions::taken_for_sound(store)
 }
 
-// The pointers are those of `engine.rs`: of slices and arrays that are lent for the call.
-unsafe fn lent<'a>(store: *const u8, len: usize) -> &'a [u8] {
-    slice::from_raw_parts(store, len)
-}
+/// The reference with the fault that was chosen.
+pub struct Mock;
 
-unsafe fn lent_mut<'a>(store: *mut u8, len: usize) -> &'a mut [u8] {
-    slice::from_raw_parts_mut(store, len)
-}
-
-#[no_mangle]
-unsafe extern "C" fn esfenruk_open(
-    store: *mut u8,
-    store_len: usize,
-    year: u32,
-    month: u32,
-    day: u32,
-    stations: *const u32,
-    stations_len: usize,
-    rows: *const u16,
-    rows_len: usize,
-) -> u32 {
-    let store = lent_mut(store, store_len);
-    let stations = slice::from_raw_parts(stations, stations_len);
-    let rows = slice::from_raw_parts(rows, rows_len);
-    let before = store.last().copied();
-    let year = if fault(3) { year & 0xffff } else { year };
-    let number = Reference.open(store, year, month, day, stations, rows);
-    if let (Some(before), Some(last)) = (before, store.last_mut()) {
-        if fault(1) && number == 0 {
-            *last = before;
-        }
-        if fault(2) && number != 0 {
-            *last = last.wrapping_add(1);
-        }
-    }
-    number
-}
-
-#[no_mangle]
-unsafe extern "C" fn esfenruk_file(
-    store: *mut u8,
-    store_len: usize,
-    text: *const u8,
-    text_len: usize,
-    rank: u32,
-) -> u32 {
-    let store = lent_mut(store, store_len);
-    let text = lent(text, text_len);
-    if portions::taken_for_unsound(store) {
-        return 9;
-    }
-    if let Some(number) = portions::file(store, text, rank, false) {
-        return number;
-    }
-    let before = store.to_vec();
-    let number = rank::file(store, text, rank);
-    let nil = text.ends_with(b"NIL=");
-    if fault(4) && number == 5 {
-        return 3;
-    }
-    let entry = Record::Entry { index: 0 };
-    if fault(5) && number == 0 {
-        let at = entry.at(store::stations(store));
-        store[at..at + ENTRY].copy_from_slice(&before[at..at + ENTRY]);
-    }
-    if (fault(6) && number == 8) || (fault(7) && number == 0 && nil) {
-        set(store, entry, SETTLED, 0);
-    }
-    if number == 0 {
-        humidity::filed(store, text);
-        dry::filed(store, text, false);
-    }
-    number
-}
-
-#[no_mangle]
-unsafe extern "C" fn esfenruk_settle(store: *mut u8, store_len: usize, station: u32) -> u32 {
-    let store = lent_mut(store, store_len);
-    if portions::taken_for_unsound(store) {
-        return 9;
-    }
-    let number = portions::settle(store, station);
-    if number == 0 {
-        humidity::settled(store, station);
-        dry::settled(store, station);
-    }
-    if fault(8) && number == 0 {
-        let n = store::stations(store);
-        for record in Record::all(n).filter(|record| matches!(record, Record::Checked { .. })) {
-            if store[record.at(n) + STATE.at] == store::CORRECTED {
-                set(store, record, FLAG, 0);
+impl Calls for Mock {
+    fn open(&self, store: &mut [u8], year: u32, month: u32, day: u32, stations: &[u32], rows: &[u16]) -> u32 {
+        let before = store.last().copied();
+        let year = if fault(3) { year & 0xffff } else { year };
+        let number = Reference.open(store, year, month, day, stations, rows);
+        if let (Some(before), Some(last)) = (before, store.last_mut()) {
+            if fault(1) && number == 0 {
+                *last = before;
+            }
+            if fault(2) && number != 0 {
+                *last = last.wrapping_add(1);
             }
         }
+        number
     }
-    number
-}
 
-#[no_mangle]
-unsafe extern "C" fn esfenruk_begin(store: *mut u8, store_len: usize, station: u32) -> u32 {
-    let store = lent_mut(store, store_len);
-    if portions::taken_for_unsound(store) {
-        return 9;
+    fn file(&self, store: &mut [u8], text: &[u8], rank: u32) -> u32 {
+        if portions::taken_for_unsound(store) {
+            return 9;
+        }
+        if let Some(number) = portions::file(store, text, rank, false) {
+            return number;
+        }
+        let before = store.to_vec();
+        let number = rank::file(store, text, rank);
+        let nil = text.ends_with(b"NIL=");
+        if fault(4) && number == 5 {
+            return 3;
+        }
+        let entry = Record::Entry { index: 0 };
+        if fault(5) && number == 0 {
+            let at = entry.at(store::stations(store));
+            store[at..at + ENTRY].copy_from_slice(&before[at..at + ENTRY]);
+        }
+        if (fault(6) && number == 8) || (fault(7) && number == 0 && nil) {
+            set(store, entry, SETTLED, 0);
+        }
+        if number == 0 {
+            humidity::filed(store, text);
+            dry::filed(store, text, false);
+        }
+        number
     }
-    portions::begin(store, station)
-}
 
-#[no_mangle]
-unsafe extern "C" fn esfenruk_step(store: *mut u8, store_len: usize, station: u32) -> u32 {
-    let store = lent_mut(store, store_len);
-    if portions::taken_for_unsound(store) {
-        return 9;
+    fn settle(&self, store: &mut [u8], station: u32) -> u32 {
+        if portions::taken_for_unsound(store) {
+            return 9;
+        }
+        let number = portions::settle(store, station);
+        if number == 0 {
+            humidity::settled(store, station);
+            dry::settled(store, station);
+        }
+        if fault(8) && number == 0 {
+            let n = store::stations(store);
+            for record in Record::all(n).filter(|record| matches!(record, Record::Checked { .. })) {
+                if store[record.at(n) + STATE.at] == store::CORRECTED {
+                    set(store, record, FLAG, 0);
+                }
+            }
+        }
+        number
     }
-    portions::step(store, station)
-}
 
-#[no_mangle]
-unsafe extern "C" fn esfenruk_cell(
-    store: *const u8,
-    store_len: usize,
-    station: u32,
-    element: u32,
-    slot: u32,
-    out: *mut [i32; 3],
-) -> u32 {
-    let store = lent(store, store_len);
-    let number = Reference.cell(store, station, element, slot, &mut *out);
-    if fault(9) && number == 12 && Reference.cell(store, station, 0, 0, &mut [0; 3]) == 11 {
-        return 11;
+    fn begin(&self, store: &mut [u8], station: u32) -> u32 {
+        if portions::taken_for_unsound(store) {
+            return 9;
+        }
+        portions::begin(store, station)
     }
-    if fault(10) && number != 0 {
-        *out = [0; 3];
-    }
-    if let (9, Some(store)) = (number, taken_for_sound(store)) {
-        return Reference.cell(&store, station, element, slot, &mut *out);
-    }
-    if number == 11 {
-        return portions::unsettled(store, station, false, |store| {
-            Reference.cell(store, station, element, slot, &mut *out)
-        });
-    }
-    if fault(33) && number == 0 && (*out)[0] == store::HUMIDITY.into() {
-        (*out)[0] = store::READ.into();
-    }
-    number
-}
 
-#[no_mangle]
-unsafe extern "C" fn esfenruk_day(
-    store: *const u8,
-    store_len: usize,
-    station: u32,
-    means: *mut [f64; 6],
-    numbers: *mut [i32; 14],
-) -> u32 {
-    let store = lent(store, store_len);
-    let (means, numbers) = (&mut *means, &mut *numbers);
-    if fault(16) && store_len >= HEADER {
-        let mut copy = store.to_vec();
-        set(&mut copy, Record::Header, ZERO, 0);
-        return Reference.day(&copy, station, means, numbers);
+    fn step(&self, store: &mut [u8], station: u32) -> u32 {
+        if portions::taken_for_unsound(store) {
+            return 9;
+        }
+        portions::step(store, station)
     }
-    let number = Reference.day(store, station, means, numbers);
-    if fault(11) && number == 0 && numbers[0] == 2 {
-        means[0] = f64::from_bits(means[0].to_bits() + 1);
-    }
-    if fault(12) && number == 0 {
-        numbers[6] = 1;
-    }
-    if fault(13) && number != 0 {
-        means[5] = 0.0;
-    }
-    if let (9, Some(store)) = (number, taken_for_sound(store)) {
-        return Reference.day(&store, station, means, numbers);
-    }
-    if number == 11 {
-        return portions::unsettled(store, station, true, |store| {
-            Reference.day(store, station, means, numbers)
-        });
-    }
-    if number == 0 {
-        humidity::day(store, station, means, numbers);
-        vapour::day(store, station, means, numbers);
-        dry::day(store, station, numbers);
-        ties::day(store, station, numbers);
-    }
-    number
-}
 
-#[no_mangle]
-unsafe extern "C" fn esfenruk_bulletin(
-    store: *mut u8,
-    store_len: usize,
-    text: *const u8,
-    text_len: usize,
-    rank: u32,
-    counts: *mut [u32; 2],
-) -> u32 {
-    let store = lent_mut(store, store_len);
-    let text = lent(text, text_len);
-    let counts = &mut *counts;
-    if fault(15) && text_len == 16384 {
-        return 1;
+    fn cell(&self, store: &[u8], station: u32, element: u32, slot: u32, out: &mut [i32; 3]) -> u32 {
+        let number = Reference.cell(store, station, element, slot, out);
+        if fault(9) && number == 12 && Reference.cell(store, station, 0, 0, &mut [0; 3]) == 11 {
+            return 11;
+        }
+        if fault(10) && number != 0 {
+            *out = [0; 3];
+        }
+        if let (9, Some(store)) = (number, taken_for_sound(store)) {
+            return Reference.cell(&store, station, element, slot, out);
+        }
+        if number == 11 {
+            return portions::unsettled(store, station, false, |store| {
+                Reference.cell(store, station, element, slot, out)
+            });
+        }
+        if fault(33) && number == 0 && out[0] == store::HUMIDITY.into() {
+            out[0] = store::READ.into();
+        }
+        number
     }
-    let number = dry::bulletin(store, text, rank, counts)
-        .or_else(|| portions::bulletin(store, text, rank, counts))
-        .unwrap_or_else(|| rank::bulletin(store, text, rank, counts));
-    if fault(14) && number == 0 && matches!(text.last(), Some(b' ' | b'\r' | b'\n')) {
-        counts[1] += 1;
-    }
-    number
-}
 
-#[no_mangle]
-unsafe extern "C" fn esfenruk_vapour_table(entries: *mut u16, entries_len: usize) -> u32 {
-    let entries = slice::from_raw_parts_mut(entries, entries_len);
-    let number = Reference.vapour_table(entries);
-    if fault(17) && number == 0 {
-        entries[1000] = entries[999];
+    fn day(&self, store: &[u8], station: u32, means: &mut [f64; 6], numbers: &mut [i32; 14]) -> u32 {
+        if fault(16) && store.len() >= HEADER {
+            let mut copy = store.to_vec();
+            set(&mut copy, Record::Header, ZERO, 0);
+            return Reference.day(&copy, station, means, numbers);
+        }
+        let number = Reference.day(store, station, means, numbers);
+        if fault(11) && number == 0 && numbers[0] == 2 {
+            means[0] = f64::from_bits(means[0].to_bits() + 1);
+        }
+        if fault(12) && number == 0 {
+            numbers[6] = 1;
+        }
+        if fault(13) && number != 0 {
+            means[5] = 0.0;
+        }
+        if let (9, Some(store)) = (number, taken_for_sound(store)) {
+            return Reference.day(&store, station, means, numbers);
+        }
+        if number == 11 {
+            return portions::unsettled(store, station, true, |store| {
+                Reference.day(store, station, means, numbers)
+            });
+        }
+        if number == 0 {
+            humidity::day(store, station, means, numbers);
+            vapour::day(store, station, means, numbers);
+            dry::day(store, station, numbers);
+            ties::day(store, station, numbers);
+        }
+        number
     }
-    if let (true, Some(last)) = (fault(18) && number != 0, entries.last_mut()) {
-        *last = last.wrapping_add(1);
+
+    fn bulletin(&self, store: &mut [u8], text: &[u8], rank: u32, counts: &mut [u32; 2]) -> u32 {
+        if fault(15) && text.len() == 16384 {
+            return 1;
+        }
+        let number = dry::bulletin(store, text, rank, counts)
+            .or_else(|| portions::bulletin(store, text, rank, counts))
+            .unwrap_or_else(|| rank::bulletin(store, text, rank, counts));
+        if fault(14) && number == 0 && matches!(text.last(), Some(b' ' | b'\r' | b'\n')) {
+            counts[1] += 1;
+        }
+        number
     }
-    if fault(19) && number != 0 {
-        return entries_len as u32;
+
+    fn vapour_table(&self, entries: &mut [u16]) -> u32 {
+        let number = Reference.vapour_table(entries);
+        if fault(17) && number == 0 {
+            entries[1000] = entries[999];
+        }
+        if let (true, Some(last)) = (fault(18) && number != 0, entries.last_mut()) {
+            *last = last.wrapping_add(1);
+        }
+        if fault(19) && number != 0 {
+            return entries.len() as u32;
+        }
+        number
     }
-    number
 }

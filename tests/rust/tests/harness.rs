@@ -1,8 +1,9 @@
 //! The comparison itself: it passes where both sides are the same, and notices every fault of the mock.
 
-use reading::calls::{Engine, Reference};
+use reading::calls::Reference;
 use reading::comparison::compare;
 use reading::mock::{set_fault, FAULTS};
+use reading::Engine;
 
 /// Episode by episode up to the first difference, which there is within so many calls or not.
 fn differs_within(calls: u64) -> bool {

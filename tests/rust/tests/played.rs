@@ -31,7 +31,7 @@ fn on_the_reference() {
 #[test]
 #[cfg(feature = "engine")]
 fn on_the_engine() {
-    plays(&reading::fence::Fenced::new(&reading::calls::Engine));
+    plays(&reading::fence::Fenced::new(&reading::Engine));
 }
 
 /// A line whose answer, store or form is another is told of.

@@ -46,7 +46,7 @@ fn on_the_reference() {
 #[test]
 #[cfg(feature = "engine")]
 fn on_the_engine() {
-    as_expected(&reading::fence::Fenced::new(&reading::calls::Engine));
+    as_expected(&reading::fence::Fenced::new(&reading::Engine));
 }
 
 /// What the reading itself reads of each text, with no store: also the hours that no slot has and those of NILs, of which

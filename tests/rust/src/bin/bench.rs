@@ -3,10 +3,11 @@
 //! ratios.
 //! bench [TURNS]
 
-use reading::calls::{Calls, Engine, Reference};
+use reading::calls::{Calls, Reference};
 use reading::reference::layout::store_length;
 use reading::reference::store::ORDINARY;
 use reading::reference::vapour;
+use reading::Arrays;
 use std::hint::black_box;
 use std::time::Instant;
 
@@ -60,9 +61,9 @@ fn measure(work: &Work, turns: usize) -> (f64, f64, f64) {
         // Each goes first every other turn.
         let (p, e) = if turn % 2 == 0 {
             let p = once(work, &Reference);
-            (p, once(work, &Engine))
+            (p, once(work, &Arrays))
         } else {
-            let e = once(work, &Engine);
+            let e = once(work, &Arrays);
             (once(work, &Reference), e)
         };
         assert_eq!(p.1, e.1, "{}: the answers differ", work.name);

@@ -11,7 +11,7 @@
 //!
 //! The last line is 'N passed, M failed'; the status is 0 only where none failed.
 
-use reading::calls::{Calls, Engine, Reference};
+use reading::calls::{Calls, Reference};
 use reading::comparison::{compare, Heard, Outcome, Pair};
 use reading::dayline::DayLines;
 use reading::fence::Fenced;
@@ -20,6 +20,7 @@ use reading::played;
 use reading::reached::{Reached, ROWS};
 use reading::sweeps::SWEEPS;
 use reading::transcript;
+use reading::Engine;
 use std::fs::{self, File};
 use std::io;
 use std::process::{Command, ExitCode};

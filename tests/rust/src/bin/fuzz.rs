@@ -3,11 +3,11 @@
 
 #![no_main]
 
-use reading::calls::Engine;
 use reading::comparison::Pair;
 use reading::fence::Fenced;
 use reading::generate::rng::Rng;
 use reading::mutation::mutate;
+use reading::Engine;
 use std::process::abort;
 
 thread_local! {
