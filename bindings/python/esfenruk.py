@@ -18,8 +18,8 @@ call's refusals are named in the order in which they are tested: the first that 
 What is not there is None: no total is not a total of 0. So ask `line.rain is None`, not `not line.rain`, which a dry day is too.
 
 The calls are those of the shared library that tools/install links, by `ctypes`. A whole number that C's type has no room for is handed
-on as the type's largest, which every call refuses. The interpreter's lock, where it has one, is held
-during a call, so that threads may share a store.
+on as the type's largest, which every call refuses. The interpreter's lock, where it has one, is held during a call, so that threads may
+share a store.
 """
 
 import ctypes
