@@ -19,13 +19,13 @@ use Rattle.refusals.specs.Refusals.{number}
 use Rattle.refusals.specs.declared.Refusal.{Refusal}
 use Rattle.std.specs.Prelude.{Result, Ok, Err}
 use Rattle.std.specs.Result.{is_err}
+use Rattle.texts.specs.Few.{Few}
 use Rattle.texts.specs.Written.{Holds, Adds}
 use Rattle.texts.proofs.Writing.{holds_more}
-use Rattle.arrayvec.specs.ArrayVec.{ArrayVec}
 use Rattle.dayline_text.specs.Cuts.{is_blank}
 use Rattle.dayline_day.specs.declared.filing.Progress.{Progress}
 use Rattle.dayline_day.specs.Reports.{reports, rest, all_blank, tail, input_reports}
-use Rattle.dayline_day.specs.Filing.{Tally, more, filing, filings, Filed, Ended, Under, Feeds, Begun}
+use Rattle.dayline_day.specs.Filing.{Tally, more, filing, filings, Filed, Ended, Under, Feeds, marked, Begun}
 use Rattle.dayline_day.proofs.Cutting.{reports_none, rest_none, reports_end, rest_end, reports_on, rest_on, rest_two, reports_two, blank_none, blank_more}
 
 -- ---- what is kept of a report does for the whole
@@ -67,6 +67,10 @@ filings_two (r ∷ rs) qs t = filings_two rs qs (filing r t)
 pub anew : (p : Progress) → p.kept.items ≡ [] → p.blank ≡ true → Under [] p
 anew p e f = record { keeps = e ∙ sym (take-nil 513); blank = f ∙ sym blank_none }
 
+-- the next report begins, whatever is kept of whether it is blank
+pub fresh : {p : Progress} → Under [] p → Under [] (marked true p)
+fresh u = record { keeps = u.keeps; blank = sym blank_none }
+
 pub begun : (p : Progress) → p.kept.items ≡ [] → p.blank ≡ true → p.refused ≡ 0 → Begun p
 begun p e f g = record { held = e; under = anew p e f; none = g }
 
@@ -85,7 +89,7 @@ module _ {p : Progress} {store : List ℕ} (b : ℕ) {new : List ℕ} (f : Adds 
       }
 
   -- it goes on
-  pub byte_on : (b ≡ 61 → ⊥) → (kept : ArrayVec ℕ) → kept.items ≡ new → (c : Bool) → c ≡ is_blank b
+  pub byte_on : (b ≡ 61 → ⊥) → (kept : Few ℕ) → kept.items ≡ new → (c : Bool) → c ≡ is_blank b
       → Feeds (b ∷ []) p store (record { kept = kept; blank = p.blank && c; refused = p.refused }) store
   byte_on e kept k c q =
       record {

@@ -19,18 +19,17 @@ use Rattle.dayline_day.specs.Printed.{settled, line_of, Printed}
 said : (station : ℕ) (l : DayLine) (d : Line.DayLine) → Says l d → day_text station l ≡ line_of station (a_day d)
 said station l d v = rw (v.rain, v.warmest, v.coldest, v.read, v.corrected, v.filled, v.missing) refl
 
--- r is the code's answer on the bytes t, which settling left
-module _ (station : ℕ) (s : List ℕ) {t : List ℕ} (e : t ≡ settled station s) (r : Result DayLine Refusal) (v : SaysDay r (step (day station) t).answer) (text : List ℕ) where
-  moved : line_of station (step (day station) t).answer ≡ line_of station (step (day station) (settled station s)).answer
-  moved = ap (λ (x : List ℕ). line_of station (step (day station) x).answer) e
-
-  pub line_shown : (l : DayLine) → r ≡ Ok l → text ≡ day_text station l → Printed station s t text
-  line_shown l q w =
-      record { left = e; shows = w ∙ said station l i.line i.holds ∙ sym (ap (line_of station) i.answer) ∙ moved }
+-- r is the code's answer on the bytes s
+module _ (station : ℕ) (s : List ℕ) (r : Result DayLine Refusal) (v : SaysDay r (step (day station) s).answer) (text : List ℕ) where
+  pub line_shown : (l : DayLine) → r ≡ Ok l → text ≡ day_text station l → text ≡ line_of station (step (day station) s).answer
+  line_shown l q w = w ∙ said station l i.line i.holds ∙ sym (ap (line_of station) i.answer)
     where
-      i : IsDay (Says l) (step (day station) t).answer
+      i : IsDay (Says l) (step (day station) s).answer
       i = is_day (Says l) _ (rw q at v)
 
-  pub line_none : (k : Refusal) → r ≡ Err k → text ≡ [] → Printed station s t text
-  line_none k q w =
-      record { left = e; shows = w ∙ sym (ap (line_of station) (is_refused (number k) _ (rw q at v))) ∙ moved }
+  pub line_none : (k : Refusal) → r ≡ Err k → text ≡ [] → text ≡ line_of station (step (day station) s).answer
+  line_none k q w = w ∙ sym (ap (line_of station) (is_refused (number k) _ (rw q at v)))
+
+-- the store is settled first, to the bytes t
+pub printed : (station : ℕ) (s : List ℕ) {t : List ℕ} → t ≡ settled station s → (text : List ℕ) → text ≡ line_of station (step (day station) t).answer → Printed station s t text
+printed station s e text w = record { left = e; shows = w ∙ ap (λ (x : List ℕ). line_of station (step (day station) x).answer) e }

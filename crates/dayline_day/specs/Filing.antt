@@ -1,5 +1,5 @@
 -- What the reports leave, filed one after the other, and what the code keeps of the one that is being read. Assumes nothing.
-use Rattle.std.specs.Prelude.{◌≡◌, cond, List, [], ◌∷◌, ℕ, ◌+◌, min}
+use Rattle.std.specs.Prelude.{◌≡◌, Bool, cond, List, [], ◌∷◌, ℕ, ◌+◌, min}
 use Rattle.texts.specs.Written.{Holds}
 use Rattle.rules.specs.Calls.{is_accepted, file}
 use Rattle.rules.specs.Step.{step}
@@ -46,6 +46,10 @@ pub record Fed (run s : List ℕ) (t : Tally) (p : Progress) (store : List ℕ) 
 -- the same of every `run` that the code may have read
 pub record Feeds (s : List ℕ) (p : Progress) (store : List ℕ) (p' : Progress) (store' : List ℕ) : Type 0 where
   pub fed : (run : List ℕ) → Under run p → Fed run s (record { store = store; refused = p.refused }) p' store'
+
+-- the same with another word on whether all of it is blank
+abbrev pub marked : Bool → Progress → Progress
+marked c p = record { kept = p.kept; blank = c; refused = p.refused }
 
 -- before the first byte
 pub record Begun (p : Progress) : Type 0 where

@@ -2,16 +2,18 @@
 // it comes in pieces, and of a report no more than 513 bytes are kept, since one beyond 512 is refused whatever it holds.
 ghost use Rattle.std.specs.Prelude.{◌≡◌, List, [], ◌∷◌, ℕ};
 ghost use Rattle.texts.specs.Written.{Holds};
-ghost use Rattle.dayline_day.specs.Filing.{Begun, Filed, Ended, Under, Feeds};
+ghost use Rattle.dayline_day.specs.Filing.{Begun, Filed, Ended, Under, Feeds, marked};
 ghost use Rattle.dayline_day.specs.Opening.{OpenedBy};
-ghost use Rattle.dayline_day.specs.Printed.{Printed};
+ghost use Rattle.dayline_day.specs.Printed.{Printed, settled, line_of};
+ghost use Rattle.rules.specs.Calls.{day};
+ghost use Rattle.rules.specs.Step.{step};
 
 use arrayvec::ArrayVec;
 use dayline_text::cut::is_blank;
 use dayline_text::first_line::Opening;
 use dayline_text::print::day_text;
 use refusals::Refusal;
-use texts::bytes::put;
+use texts::few::Few;
 
 // A store opened by what the first line said.
 pub fn open(store: &mut [u8], opening: &Opening) -> Result<(), Refusal>
@@ -22,9 +24,9 @@ pub fn open(store: &mut [u8], opening: &Opening) -> Result<(), Refusal>
 
 // The reports as they are read: what is kept of the one under way, whether all of it so far is blank, and the reports refused before it.
 // `blank` is a flag, since what is kept is cut at 513 bytes and does not say it.
-#[derive(Drop)]
+#[derive(Clone, Copy)]
 pub struct Progress {
-    pub kept: ArrayVec<u8, 513>,
+    pub kept: Few<u8, 513>,
     pub blank: bool,
     pub refused: u64,
 }
@@ -35,7 +37,7 @@ impl Progress {
         ensures { Begun result }
     {
         Progress {
-            kept: ArrayVec::new(),
+            kept: Few::new(),
             blank: true,
             refused: 0,
         }
@@ -53,25 +55,28 @@ impl Progress {
         self.blank = true;
     }
 
-    // One byte of the input.
-    fn byte(&mut self, store: &mut [u8], b: u8)
-        ensures { Feeds (b ∷ []) self.old store.old self.new store.new }
+    // One byte of the input, and whether all so far is blank: before it, and with it. That is handed on and not kept, since of a flag in memory
+    // each byte waits for the one before.
+    fn byte(&mut self, store: &mut [u8], b: u8, blank: bool) -> bool
+        ensures { Feeds (b ∷ []) (marked blank self.old) store.old (marked result self.new) store.new }
     {
-        put(&mut self.kept, b);
+        let _full = self.kept.try_push(b);
         if b == b'=' {
             self.finish(store);
-        } else {
-            self.blank &= is_blank(b);
+            return true;
         }
+        blank & is_blank(b)
     }
 
     // A piece of the input: its last report may go on in the next one.
     pub fn feed(&mut self, store: &mut [u8], piece: &[u8])
         ensures { Feeds piece.now self.old store.old self.new store.new }
     {
+        let mut blank = self.blank;
         for &b in piece {
-            self.byte(store, b);
+            blank = self.byte(store, b, blank);
         }
+        self.blank = blank;
     }
 
     // The end of the input: a blank tail is dropped, any other is a report. How many reports are refused.
@@ -85,11 +90,28 @@ impl Progress {
     }
 }
 
-// A station is settled, and its line given: none where it has no day line.
+// A station is settled, and its line given: none where it has no day line. Each of the two is a call of its own, so that a stack of 32 KiB has room
+// for either's columns beside the store.
 pub fn station_text(store: &mut [u8], station: u32) -> ArrayVec<u8, 160>
     ensures { Printed station store.old store.new result.items }
 {
+    settle(store, station);
+    line(store, station)
+}
+
+// A station is settled; one that is not in the store is left out.
+#[inline(never)]
+fn settle(store: &mut [u8], station: u32)
+    ensures { store.new ≡ settled station store.old }
+{
     let _settled = engine::settle(store, station);
+}
+
+// The line of a station.
+#[inline(never)]
+fn line(store: &[u8], station: u32) -> ArrayVec<u8, 160>
+    ensures { result.items ≡ line_of station (step (day station) store.now).answer }
+{
     match engine::day(store, station) {
         Ok(day) => day_text(station, day),
         Err(_) => ArrayVec::new(),

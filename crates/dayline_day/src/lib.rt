@@ -69,13 +69,14 @@ fn run_day(
 ) -> Result<()>
     requires { Placed piece.old place }
 {
+    let stations: &[u32] = &opening.stations;
     let mut space = store_space();
-    let store = &mut space[..store_length(opening.stations.len())];
+    let store = &mut space[..store_length(stations.len())];
     if open(store, opening).is_err() {
         return print_unopened(output);
     }
     let refused = reports(input, store, piece, place)?;
-    print_all(output, store, &opening.stations)?;
+    print_all(output, store, stations)?;
     output.write_all(&refused_text(refused))
 }
 

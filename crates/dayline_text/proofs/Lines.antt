@@ -3,18 +3,18 @@
 use mathlib.Core.Path.{◌≡◌, refl, sym, ◌∙◌, ap, ap₂}
 use mathlib.Core.Bool.{Bool, true, false, ◌&&◌}
 use mathlib.Core.List.{List, [], ◌∷◌, ◌++◌, append_assoc}
-use Prim.Native.Nat.{ℕ, ◌+◌, ◌<◌, ◌≤◌}
+use Prim.Native.Nat.{ℕ, ◌+◌, ◌-◌, ◌<◌, ◌≤◌}
 use native.Mathlib.Numerals.{add-one}
 use native.Mathlib.Omega.{arith}
 use borrow.Author.Tests.{lt-leb}
 use lib.Dec.{leb}
-use lib.ListN.{length, drop, get_or, length-append, drop_of_length-le}
-use lib.Seq.{drop-cons}
+use lib.ListN.{length, take, drop, get_or, length-append, drop_of_length-le}
+use lib.Seq.{take_all, drop-cons}
 use Rattle.std.specs.Prelude.{Option, None, Some, unwrap_or, Result, Ok, Err, OnOk, OnErr}
 use Rattle.std.specs.Result.{is_ok}
-use Rattle.arrayvec.specs.ArrayVec.{ArrayVec}
 use Rattle.laws.proofs.Bools.{and_false_left, and_false_right}
 use Rattle.synop_text.specs.Characters.{is_digit}
+use Rattle.texts.specs.Few.{Few}
 use Rattle.dayline_text.specs.Cuts.{is_blank}
 use Rattle.dayline_text.specs.declared.first_line.Line.{Line}
 use Rattle.dayline_text.specs.FirstLine.{cannot_open, first, first_line, is_whole, is_plain, closed, grown, numbers_from}
@@ -37,7 +37,7 @@ module _ (l : Line) where
 
   module _ (n : ℕ) (e : l.number ≡ Some n) where
     -- a number too many
-    end_over : 67 ≤ length l.numbers.items → (v : ArrayVec ℕ) → Ended l (record { numbers = v; number = None; good = l.good && false })
+    end_over : 67 ≤ length l.numbers.items → (v : Few ℕ) → Ended l (record { numbers = v; number = None; good = l.good && false })
     end_over h v =
         record {
           none = refl;
@@ -50,7 +50,7 @@ module _ (l : Line) where
         many rest = omega (arith, length-append l.numbers.items (n ∷ rest))
 
     -- one number more
-    end_more : (v : ArrayVec ℕ) → v.items ≡ l.numbers.items ++ n ∷ [] → Ended l (record { numbers = v; number = None; good = l.good && true })
+    end_more : (v : Few ℕ) → v.items ≡ l.numbers.items ++ n ∷ [] → Ended l (record { numbers = v; number = None; good = l.good && true })
     end_more v q =
         record {
           none = refl;
@@ -65,10 +65,11 @@ module _ (l : Line) where
         kept false = refl
 
     -- what the list answers where it is given the number
-    pub end_pushed : {E : Type 0} (r : Result Unit E) (b : Bool) (v : ArrayVec ℕ) → b ≡ is_ok r → OnOk r (v.items ≡ l.numbers.items ++ n ∷ [])
+    pub end_pushed : {E : Type 0} (r : Result Unit E) (b : Bool) (v : Few ℕ) → b ≡ is_ok r
+        → v.items ≡ l.numbers.items ++ take (67 - length l.numbers.items) (n ∷ []) → OnOk r (length l.numbers.items < 67)
         → OnErr r (length l.numbers.items ≡ 67) → Ended l (record { numbers = v; number = None; good = l.good && b })
-    end_pushed (Ok x) b v q o f = rw q (end_more v o)
-    end_pushed (Err x) b v q o f = rw q (end_over (omega arith) v)
+    end_pushed (Ok x) b v q a o f = rw q (end_more v (a ∙ ap (λ (t : List ℕ). l.numbers.items ++ t) (take_all (67 - length l.numbers.items) (n ∷ []) (omega arith))))
+    end_pushed (Err x) b v q a o f = rw q (end_over (omega arith) v)
 
 -- ---- one byte more
 module _ (l : Line) (b : ℕ) (s : List ℕ) where

@@ -14,7 +14,6 @@ use lib.Seq.{get_or-take, take_all}
 use Rattle.std.proofs.lemmas.List.{get_or-drop}
 use Rattle.std.specs.Prelude.{Option, None, IfSome}
 use Rattle.std.specs.Simd.{first_chunks}
-use Rattle.arrayvec.specs.ArrayVec.{array_vec_len}
 use Rattle.laws.specs.Table.{table}
 use Rattle.laws.proofs.Bools.{and_left, and_right}
 use Rattle.laws.proofs.Tables.{length_table}
@@ -111,5 +110,5 @@ module _ (l w : Line) (v : Ended l w) where
   unfolding first
   opens_none e = record { says = whole false e; few = tt }
 
-  pub opens_all : (o : Option Opening) → w.good ≡ true → told o ≡ first true w.numbers.items → IfSome o (λ p. array_vec_len p.stations ≤ 32) → Opens l o
+  pub opens_all : (o : Option Opening) → w.good ≡ true → told o ≡ first true w.numbers.items → IfSome o (λ p. length p.stations.items ≤ 32) → Opens l o
   opens_all o e h f = record { says = h ∙ whole true e; few = f }

@@ -1,6 +1,5 @@
 -- What the code's line and its opening stand for. Assumes nothing.
-use Rattle.std.specs.Prelude.{ℕ, Bool, ◌&&◌, List, [], ◌++◌, ◌≡◌, ◌≤◌, Option, None, Some, IfSome}
-use Rattle.arrayvec.specs.ArrayVec.{array_vec_len}
+use Rattle.std.specs.Prelude.{ℕ, Bool, ◌&&◌, List, [], ◌++◌, ◌≡◌, ◌≤◌, length, Option, None, Some, IfSome}
 use Rattle.dayline_text.specs.declared.first_line.Line.{Line}
 use Rattle.dayline_text.specs.declared.first_line.Opening.{Opening}
 use Rattle.dayline_text.specs.FirstLine.{First, cannot_open, opens, first, closed, is_plain, numbers_from}
@@ -26,4 +25,4 @@ told (Some o) = opens o.date.year o.date.month o.date.day o.stations.items o.row
 -- the line l, which ends here, opens what the answer o says
 pub record Opens (l : Line) (o : Option Opening) : Type 0 where
   pub says : told o ≡ goes l []
-  pub few : IfSome o (λ p. array_vec_len p.stations ≤ 32)
+  pub few : IfSome o (λ p. length p.stations.items ≤ 32)

@@ -1,30 +1,29 @@
 // The first line, read a byte at a time, so that it may be of any length: numbers parted by blanks. Year, month and day come first,
 // then a number and a climate row for each station.
-ghost use Rattle.std.specs.Prelude.{◌≡◌, List, ◌∷◌, ◌++◌, ℕ, ◌≤◌, min, true, IfSome};
-ghost use Rattle.arrayvec.specs.ArrayVec.{array_vec_len};
+ghost use Rattle.std.specs.Prelude.{◌≡◌, List, ◌∷◌, ◌++◌, ℕ, ◌≤◌, min, length, true, IfSome};
 ghost use Rattle.dayline_text.specs.FirstLine as first;
 ghost use Rattle.dayline_text.specs.Line.{goes, Ended, Opens, told};
 
 use crate::cut::is_blank;
-use arrayvec::ArrayVec;
 use calendar::Date;
 use synop_text::is_digit;
+use texts::few::Few;
 
 // The line so far: the numbers that are whole, the one that is being read, and whether the line may still open a store.
-#[derive(Drop)]
+#[derive(Clone, Copy)]
 pub struct Line {
-    pub numbers: ArrayVec<u32, 67>,
+    pub numbers: Few<u32, 67>,
     pub number: Option<u32>,
     // A flag: of a byte that spoils the line, or of a number too many, no other field tells.
     pub good: bool,
 }
 
 // What a whole line opens: a date, and a number and a row for each of the stations. Two lists, since `open` takes two, as from C.
-#[derive(Drop)]
+#[derive(Clone, Copy)]
 pub struct Opening {
     pub date: Date,
-    pub stations: ArrayVec<u32, 32>,
-    pub rows: ArrayVec<u16, 32>,
+    pub stations: Few<u32, 32>,
+    pub rows: Few<u16, 32>,
 }
 
 // A number with one more digit.
@@ -43,7 +42,7 @@ impl Line {
         ensures { (s : List ℕ) → goes result s ≡ first.first_line s }
     {
         Line {
-            numbers: ArrayVec::new(),
+            numbers: Few::new(),
             number: None,
             good: true,
         }
@@ -109,13 +108,13 @@ fn is_whole(count: usize) -> bool
 // What these numbers open, as far as no byte has spoilt the line: three for the date, then a station and its row in each pair.
 fn pairs_opened(numbers: &[u32]) -> Option<Opening>
     ensures says { told result ≡ first.first true numbers.now }
-    ensures few { IfSome result (λ o. array_vec_len o.stations ≤ 32) }
+    ensures few { IfSome result (λ o. length o.stations.items ≤ 32) }
 {
     if !is_whole(numbers.len()) {
         return None;
     }
-    let mut stations = ArrayVec::new();
-    let mut rows = ArrayVec::new();
+    let mut stations = Few::new();
+    let mut rows = Few::new();
     let (pairs, _) = numbers[3..].as_chunks::<2>();
     for &[station, row] in pairs {
         stations.push(station);

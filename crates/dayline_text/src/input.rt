@@ -45,7 +45,7 @@ fn take(line: &mut Line, answer: Result<usize>, piece: &[u8]) -> Result<Option<P
 }
 
 // The first line, and the place of the reports in the piece of the input that its end lies in.
-#[derive(Drop)]
+#[derive(Clone, Copy)]
 pub struct Start {
     pub line: Line,
     pub place: Place,

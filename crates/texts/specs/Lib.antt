@@ -2,3 +2,5 @@
 pub mod Written
 -- Numbers in decimal.
 pub mod Numbers
+-- Lists of fixed room that are copied.
+pub mod Few

@@ -32,8 +32,8 @@ push-requires-in-loop-station c =
 
 pub loop-station-preserved : goal.loop-station-preserved
 loop-station-preserved c =
-    pairing_more c.args.numbers.now c.as_chunks.ensures.front c.as_chunks.ensures.front_len c.loop-station.invariant c.loop-station-test.true c.push.ensures.items
-    c.push-in-loop-station.ensures.items c.narrow.ensures
+    pairing_more c.args.numbers.now c.as_chunks.ensures.front c.as_chunks.ensures.front_len c.loop-station.invariant c.loop-station-test.true c.push.ensures
+    c.push-in-loop-station.ensures c.narrow.ensures
 
 pub returns-clause-says : goal.returns-clause-says
 returns-clause-says c =
