@@ -2,15 +2,21 @@
 -- latest, of the utmost.
 --     first     before the first turn
 --     more      one more slot
+--     folded    after the turns of a `fold` over the slots 1 to 7
 --     ended     after the last: the best slot is the rule's where it has a temperature, and the rule has none where it has not
 -- Assumes nothing.
 use mathlib.Core.Path.{◌≡◌, refl, sym, ◌∙◌, ap, subst}
 use mathlib.Core.Logic.{⊎_elim}
 use mathlib.Core.Bool.{Bool, true, false, not, cond, ◌&&◌, ◌||◌, true≢false, false≢true}
 use mathlib.Core.List.{List}
-use Rattle.std.specs.Prelude.{None, Some}
-use Prim.Native.Nat.{ℕ, ◌+◌, ◌<◌}
-use native.Mathlib.Nat.{eq-or-lt_of_le, not-suc-le-zero}
+use Rattle.std.specs.Prelude.{Option, None, Some}
+use Rattle.std.specs.Fn.{Called, Mut}
+use Rattle.std.specs.Iterator.{FoldsItems}
+use Rattle.std.specs.List.{fold, range_with_len}
+use Rattle.std.proofs.lemmas.Iterator.{YieldsList}
+use Rattle.std.proofs.lemmas.Iterator.Consumers.{fold_from_yields_List}
+use Prim.Native.Nat.{ℕ, zero, suc, ◌+◌, ◌<◌}
+use native.Mathlib.Nat.{eq-or-lt_of_le, not-suc-le-zero, add-zero}
 use native.Mathlib.Omega.{arith}
 use borrow.Author.Count.{below_more}
 use borrow.Author.Tests.{ltb-true, le-ltb}
@@ -20,23 +26,12 @@ use lib.Signed.{lt_z, ◌<ℤ◌, ◌≤ℤ◌, lt_z_yes, lt_z_no, <ℤ-≤ℤ_t
 use Rattle.laws.proofs.Bools.{Known, is_true, is_false, known, and_true, and_left, and_right, and_false_left, or_true_right}
 use Rattle.laws.proofs.Offset.{side}
 use Rattle.laws.proofs.Tables.{all_at, all_from}
-use Rattle.quality.specs.Cell.{Cell, missing, there, slot}
-use Rattle.daily.specs.Extremes.{Tie, Earliest, Latest, on_ties, utmost}
+use Rattle.quality.specs.Cell.{Cell, missing, slot}
+use Rattle.daily.specs.declared.extremes.Tie.{Tie}
+use Rattle.daily.specs.declared.extremes.Tie.TheVariants.{Earliest, Latest}
+use Rattle.daily.specs.Extremes.{on_ties, utmost}
+use Rattle.daily.specs.Parts.{beyond, outdoes, ahead}
 use Rattle.daily.proofs.Ties.{Alone, on_ties_none, on_ties_some}
-
--- ---- what counts before what
--- x is beyond y: warmer, or else colder
-abbrev pub beyond : Bool → ℤ → ℤ → Bool
-beyond warmer x y = cond warmer (lt_z y x) (lt_z x y)
-
--- x, of a later slot than y, counts before it: x is beyond y or, where the latest counts on ties, y is not beyond x
-abbrev pub outdoes : Tie → Bool → ℤ → ℤ → Bool
-outdoes Earliest warmer x y = beyond warmer x y
-outdoes Latest warmer x y = not (beyond warmer y x)
-
--- the same of cells: x is there, and y is missing or outdone
-abbrev pub ahead : Tie → Bool → Cell → Cell → Bool
-ahead tie warmer x y = there x && (missing y || outdoes tie warmer x.value y.value)
 
 -- ---- the order of values
 below : {x y : ℤ} → lt_z x y ≡ true → x <ℤ y
@@ -45,7 +40,7 @@ below e = lt_z_yes (subst T (sym e) tt)
 above : {x y : ℤ} → lt_z x y ≡ false → y ≤ℤ x
 above e = lt_z_no (subst (λ (b : Bool). T (not b)) (sym e) tt)
 
-pub lt_asym : (x y : ℤ) → lt_z x y ≡ true → lt_z y x ≡ false
+lt_asym : (x y : ℤ) → lt_z x y ≡ true → lt_z y x ≡ false
 lt_asym (pos a) (pos b) h = le-ltb b a (omega (arith, ltb-true a b h))
 lt_asym (pos a) (negsuc b) h = absurd (false≢true h)
 lt_asym (negsuc a) (pos b) h = refl
@@ -68,11 +63,11 @@ beyond_past true x y z h g = elim (known (lt_z z x)) [ is_true e ↦ e | is_fals
 beyond_past false x y z h g = elim (known (lt_z x z)) [ is_true e ↦ e | is_false e ↦ absurd (never x y z h g e) ]
 
 -- ---- what outdoes what
-pub not_false : (b : Bool) → not b ≡ true → b ≡ false
+not_false : (b : Bool) → not b ≡ true → b ≡ false
 not_false true e = absurd (false≢true e)
 not_false false e = refl
 
-pub not_true : (b : Bool) → not b ≡ false → b ≡ true
+not_true : (b : Bool) → not b ≡ false → b ≡ true
 not_true true e = refl
 not_true false e = absurd (true≢false e)
 
@@ -148,6 +143,18 @@ module _ (t : Tie) (w : Bool) (ts : List Cell) where
       go (is_false e) =
           let m : j < n = h.within in
           rw e (record { within = omega arith; sooner = h.sooner; later = below_more _ _ h.later (λ q. e) })
+
+  -- one turn of the scan: the best so far, and the next slot
+  abbrev pub turn : ℕ → ℕ → ℕ
+  turn j k = cond (ahead t w (slot ts k) (slot ts j)) k j
+
+  turns : (n lo j : ℕ) → Leads t w ts j lo → Leads t w ts (fold turn j (range_with_len lo n)) (lo + n)
+  turns zero lo j h = rw add-zero h
+  turns (suc n) lo j h = let e : lo + 1 + n ≡ lo + suc n = omega arith in subst (Leads t w ts _) e (turns n (lo + 1) (turn j lo) (more h))
+
+  pub folded : {S F : Type 0} {steps : S → Option ℕ → S → Type 0} {s : S} (g : Mut F (ℕ × (ℕ × Unit {0})) ℕ) {f : F} (r : ℕ) → FoldsItems steps g s f 0 r
+      → YieldsList steps (λ x. x) s (range_with_len 1 7) → ((j k i : ℕ) (q : F) → Called g f (j, (k, tt)) i q → (q ≡ f) × (i ≡ turn j k)) → Leads t w ts r 8
+  folded g r ran e calls = subst (λ (i : ℕ). Leads t w ts i 8) (sym (fold_from_yields_List g turn 0 r ran e calls)) (turns 7 1 0 first)
 
 -- ---- after all eight slots, j the best. m says whether i is missing, n whether j is; `x is ahead of y` is `not (missing x) && (missing y || outdoes)`
 -- i comes before j, which outdoes it where b: it is not beyond j (c)

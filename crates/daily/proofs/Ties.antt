@@ -12,7 +12,9 @@ use Prim.Native.Nat.{ℕ, zero, suc, ◌<◌}
 use native.Mathlib.Nat.{le_of_suc-le-suc, eq-or-lt_of_le, not-suc-le-zero}
 use native.Mathlib.Omega.{arith}
 use Rattle.quality.specs.Cell.{Cell}
-use Rattle.daily.specs.Extremes.{Tie, Earliest, Latest, on_ties, warmest, coldest}
+use Rattle.daily.specs.declared.extremes.Tie.{Tie}
+use Rattle.daily.specs.declared.extremes.Tie.TheVariants.{Earliest, Latest}
+use Rattle.daily.specs.Extremes.{on_ties, warmest, coldest}
 
 pub on_ties_none : (t : Tie) (p : ℕ → Bool) (n : ℕ) → ((i : ℕ) → i < n → p i ≡ false) → on_ties t p n ≡ None
 unfolding on_ties

@@ -5,11 +5,8 @@ use Rattle.std.specs.Prelude.{Bool, not, cond, ◌&&◌, ◌||◌, List, ℕ, ze
 use Rattle.std.specs.Int.Signed.{lt_z}
 use Rattle.laws.specs.All.{all}
 use Rattle.quality.specs.Cell.{Cell, missing, there, slot}
-
--- which of several slots with the same temperature counts
-pub data Tie : Type 0 where
-  Earliest : Tie
-  Latest : Tie
+use Rattle.daily.specs.declared.extremes.Tie.{Tie}
+use Rattle.daily.specs.declared.extremes.Tie.TheVariants.{Earliest, Latest}
 
 -- which of 0 .. n - 1 it is at which p holds: where there are several, "the earliest on ties" or the latest
 unfoldable pub on_ties : Tie → (ℕ → Bool) → ℕ → Option ℕ
