@@ -1,2 +1,3 @@
--- A law that this crate's proofs cite.
+-- Laws that this crate's proofs cite.
 pub mod Crossing
+pub mod Changing

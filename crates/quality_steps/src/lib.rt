@@ -1,5 +1,5 @@
 // The four steps on a station's nine columns, in the elements' order T, D, P, W, C, V, R, X, M. Each step reads the columns that the step
-// before left and makes new ones.
+// before left and changes its own copy of them in place: columns made anew by `from_fn` would stand several times on the stack.
 #![tactic(auto)]
 
 ghost use Rattle.std.specs.Prelude.{◌≡◌};
@@ -16,13 +16,16 @@ use quality::step::Step;
 use quality_columns::{
     dew_column, fill_column, range_column, suspect_at, time_column, wind_column,
 };
-use std::array::from_fn;
 
 // 1. Range: every element's column against its limits.
 pub fn range_all(climate: Climate, season: Season, s: [Column; 9]) -> [Column; 9]
     ensures { sheet result ≡ range (row_of climate) (is_warm season) (sheet s) }
 {
-    from_fn(|e| range_column(limits_for(e, climate, season), s[e]))
+    let mut ranged = s;
+    for (e, column) in ranged.iter_mut().enumerate() {
+        *column = range_column(limits_for(e, climate, season), *column);
+    }
+    ranged
 }
 
 // 2. Internal: dew points beside temperatures, wind speeds beside each slot's dd, the maximum of the day beside the minimum of the night.
@@ -46,20 +49,26 @@ pub fn time_all(s: [Column; 9]) -> [Column; 9]
     requires { ValidSheet (sheet s) }
     ensures { sheet result ≡ time (sheet s) }
 {
-    from_fn(|e| {
+    let mut timed = s;
+    for (e, column) in timed.iter_mut().enumerate() {
         if e <= 2 {
-            time_column(e == 0, s[e])
-        } else {
-            s[e]
+            *column = time_column(e == 0, *column);
         }
-    })
+    }
+    timed
 }
 
 // 4. Fill: T, D, P and W, what is missing between two neighbours in time.
 pub fn fill_all(s: [Column; 9]) -> [Column; 9]
     ensures { sheet result ≡ fill (sheet s) }
 {
-    from_fn(|e| if e <= 3 { fill_column(s[e]) } else { s[e] })
+    let mut filled = s;
+    for (e, column) in filled.iter_mut().enumerate() {
+        if e <= 3 {
+            *column = fill_column(*column);
+        }
+    }
+    filled
 }
 
 // One of the four, on the columns of a station of that climate in that season. The step is data, which a station's settled number gives, so
