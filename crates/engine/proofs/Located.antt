@@ -2,6 +2,8 @@
 --     found_station      what the work on the station at its index is given
 --     missing_did        the refusals 9 and 6
 --     found_did          what the station's rule comes to
+-- A step and a cell of a station that the store has not, however the code came to know it.
+--     step_absent, cell_absent
 -- A report at a rank above 24.
 --     rank_refused
 -- Assumes nothing.
@@ -12,6 +14,7 @@ use mathlib.Core.Bool.{Bool, true}
 use borrow.Author.Tests.{lt-leb}
 use Rattle.std.specs.Prelude.{Ok, Err}
 use Rattle.refusals.specs.declared.Refusal.{Refusal}
+use Rattle.refusals.specs.declared.Refusal.TheVariants.{UnknownStation}
 use Rattle.refusals.specs.Refusals.{number}
 use Rattle.laws.proofs.Bools.{via}
 use Rattle.store_layout.specs.Sound.{sound}
@@ -21,7 +24,8 @@ use Rattle.store_layout.specs.Layout.{decode}
 use Rattle.store_layout.specs.Model.{station_at}
 use Rattle.store_soundness.specs.Located.{located}
 use Rattle.store_soundness.proofs.Locations.{Searched, searched, Missing, unsound, absent, missing, within}
-use Rattle.rules.specs.Calls.{Call, Answer, refused, file, Request, Ask, named, ask}
+use Rattle.rules.specs.Calls as Calls
+use Rattle.rules.specs.Calls.{Call, Answer, refused, file, cell, Request, stepping, give_cell, Ask, named, ask}
 use Rattle.rules.specs.Rules.{rule}
 use Rattle.rules.specs.Reaction.{date_of}
 use Rattle.rules.specs.Step.{after, asked, step}
@@ -49,6 +53,12 @@ module _ (s : List ℕ) (x : ℕ) where
     pub found_did : {i : ℕ} → Ok i ≡ located s x → {a : Answer} {t : List ℕ}
         → Did (after (rule (date_of (decode s)) d (station_at (decode s).stations i)) i (decode s) s) a t → Did (step c s) a t
     found_did {i} e w = let f = searched s x (sym e) in searched_did f (at_did s x d f.answer w)
+
+pub step_absent : (s : List ℕ) (x : ℕ) → located s x ≡ Err UnknownStation → Did (step (Calls.step x) s) (refused 6) s
+step_absent s x e = missing_did s x (Calls.step x) stepping refl (sym e)
+
+pub cell_absent : (s : List ℕ) (x e k : ℕ) → located s x ≡ Err UnknownStation → refused 6 ≡ (step (cell x e k) s).answer
+cell_absent s x e k p = (missing_did s x (cell x e k) (give_cell e k) refl (sym p)).answer
 
 pub rank_refused : (text : List ℕ) (rank : ℕ) (s : List ℕ) {b : Bool} → b ≡ sound s → b ≡ true → 24 < rank → Did (step (file text rank) s) (refused 13) s
 rank_refused text rank s h t l = did_as (file_high text rank s (via h t) (lt-leb rank 24 l)) (record { answer = refl; left = refl })

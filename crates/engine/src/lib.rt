@@ -60,6 +60,7 @@ pub fn begin(store: &mut [u8], station: u32) -> Result<(), Refusal>
 }
 
 // The step of it that is due, one of range, internal, time and fill: refused 9, 6, 14.
+#[tactic(auto, using(crate::proofs::Located::step_absent))]
 pub fn step(store: &mut [u8], station: u32) -> Result<(), Refusal>
     ensures { Did (Step.step (Calls.step station) store.old) (reply result) store.new }
 {
@@ -68,10 +69,11 @@ pub fn step(store: &mut [u8], station: u32) -> Result<(), Refusal>
 }
 
 // One checked cell of a station, by element (0 to 8) and slot: refused 9, 6, 12, 11.
+#[tactic(auto, using(crate::proofs::Located::cell_absent))]
 pub fn cell(store: &[u8], station: u32, element: u32, slot: u32) -> Result<Cell, Refusal>
     ensures { cell_reply result ≡ (step (Calls.cell station element slot) store.now).answer }
 {
-    let index = locate(store, station)?;
+    let index = locate(store, station)?; // 6 before 12
     crate::reading::give_cell(store, index, element, slot)
 }
 

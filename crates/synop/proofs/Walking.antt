@@ -80,8 +80,8 @@ module _ {s : List ℕ} {kept : List (Option Characters)} {p : Place} {good : Bo
       x : Option Characters
       x = characters_of g
 
-  pub stop : {g : Group} {to : ℕ} {t : Bool} → Kind s at g to → t ≡ shaped p g → t ≡ false → refused 3 ≡ read (of_groups (tokens s)) (tokens s)
-  unfolding shaped_from of_groups read
+  pub stop : {g : Group} {to : ℕ} {t : Bool} → Kind s at g to → t ≡ shaped p g → t ≡ false → answered p false good kept ≡ read (of_groups (tokens s)) (tokens s)
+  unfolding shaped_from of_groups read answered
   stop {g} {to} step et bad = rw (w.shape, step.first, via et bad)
 
   pub past : tokens (drop at s) ≡ [] → answered p true good kept ≡ read (of_groups (tokens s)) (tokens s)

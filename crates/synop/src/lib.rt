@@ -48,13 +48,13 @@ fn content(p: Place, kept: &Parts) -> Report
     )
 }
 
-// What the groups are that were walked and have their shapes: the first check that fails, or the content. `ranged` is what check 4 found,
-// which is told only where no check before it fails.
+// What the groups are that were walked: the first check that fails, or the content. `shaped` and `ranged` are what checks 3 and 4 found.
 #[tactic(auto, unfolding(crate::specs::Report::answered))]
-fn answer(p: Place, ranged: bool, kept: &Parts) -> Result<Report, Refusal>
-    ensures { reports.meaning result ≡ reports.answered p true ranged kept.now.groups }
+fn answer(p: Place, shaped: bool, ranged: bool, kept: &Parts) -> Result<Report, Refusal>
+    ensures { reports.meaning result ≡ reports.answered p shaped ranged kept.now.groups }
 {
-    if !synop_text::order::begun(p) {
+    let shape = shaped & synop_text::order::begun(p);
+    if !shape {
         return Err(Refusal::Shape);
     }
     if !ranged {
@@ -79,14 +79,14 @@ fn walk(text: &[u8]) -> Result<Report, Refusal>
     let mut cursor = Cursor::new();
     while let Some((g, next)) = cursor.take(text) {
         if !synop_checks::shaped(place, g) {
-            return Err(Refusal::Shape);
+            return answer(place, false, ranged, &kept);
         }
         ranged &= synop_checks::ranged(place, g);
         place = synop_text::order::next(place, g);
         kept.keep(place, g);
         cursor = next;
     }
-    answer(place, ranged, &kept)
+    answer(place, true, ranged, &kept)
 }
 
 // What a text is.
