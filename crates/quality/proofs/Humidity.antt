@@ -28,14 +28,16 @@ percent (pos n) h =
     record { itself = refl; least = l; most = m }
 percent (negsuc n) h = absurd (true≢false (sym h))
 
+in_percent : (e : ℕ) (c : Cell) → ValidCell e c → is_humidity c ≡ true → is_percent c.value ≡ true
+in_percent e c w h =
+    and_right (eqb e dew_point && is_humidity c) (is_percent c.value) (or_second (lt-leb c.state 3 (omega (arith, eqb-true c.state 4 h))) (cell_parts w).state)
+
 pub humidity : (e : ℕ) (c : Cell) → ValidCell e c → is_humidity c ≡ true → Percent c.value
-humidity e c w h =
-    percent c.value
-    (and_right (eqb e dew_point && is_humidity c) (is_percent c.value) (or_second (lt-leb c.state 3 (omega (arith, eqb-true c.state 4 h))) (cell_parts w).state))
+humidity e c w h = percent c.value (in_percent e c w h)
 
 module _ (e : ℕ) (c : Cell) (w : ValidCell e c) (h : is_humidity c ≡ true) where
-  pub humidity_least : 1 ≤ nat_abs c.value
-  humidity_least = (humidity e c w h).least
+  pub humidity_least : le_z (pos 1) c.value ≡ true
+  humidity_least = and_left (le_z (pos 1) c.value) (le_z c.value (pos 100)) (in_percent e c w h)
 
   pub humidity_most : nat_abs c.value ≤ 100
   humidity_most = (humidity e c w h).most

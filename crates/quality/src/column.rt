@@ -1,5 +1,5 @@
 // A cell, and a column: one element's nine cells, slot by slot, passed by value through the steps.
-ghost use Rattle.std.specs.Prelude.{◌≡◌, ◌<◌};
+ghost use Rattle.std.specs.Prelude.{◌≡◌, ◌<◌, set};
 ghost use Rattle.quality.specs.Cell.{missing, is_humidity, slot, discarded, flagged};
 ghost use Rattle.quality.specs.Coded.{cells};
 ghost use Rattle.quality.specs.Steps.{passed_over};
@@ -43,6 +43,18 @@ impl Column {
             flag: self.flags[k],
             value: self.values[k],
         }
+    }
+
+    // The column with the cell d at slot k.
+    pub fn put(self, k: usize, d: Cell) -> Column
+        requires { k < 9 }
+        ensures { cells result ≡ set (cells self) k d }
+    {
+        let mut column = self;
+        column.values[k] = d.value;
+        column.states[k] = d.state;
+        column.flags[k] = d.flag;
+        column
     }
 }
 

@@ -2,6 +2,7 @@
 pub mod Pass
 pub mod Most
 pub mod Rule
+pub mod Steps
 pub mod Lookup
 pub mod FilledSlice
 pub mod Examples
