@@ -18,7 +18,7 @@ use lib.IntN.{ℤ, pos, neg_ℤ, nat_abs, ◌+ℤ◌}
 use lib.Signed.{lt_z, shr_z}
 use lib.ListN.{get_or, set, length-set}
 use Rattle.laws.specs.Table.{table}
-use Rattle.laws.proofs.Bools.{Known, is_true, is_false, known, four, and_left, and_right, or_true_left, or_true_right, or_second, cond_keeps}
+use Rattle.laws.proofs.Bools.{and_true, Known, is_true, is_false, known, four, and_left, and_right, or_true_left, or_true_right, or_second, cond_keeps}
 use Rattle.laws.proofs.Tables.{length_table, get_d_table, set_each}
 use Rattle.laws.proofs.Offset.{size_negative, size_middle}
 use Rattle.quality.specs.Cell.{Cell, missing, is_percent, is_humidity, discarded, flagged, slot, none}
@@ -59,7 +59,7 @@ pub humidity_valid : (states flags u : ℕ) → 1 ≤ u → u ≤ 100 → CellWi
 humidity_valid states flags u l h =
     cell_whole
     (record {
-      state = or_true_right (leb 4 states) _ (rw (le-leb 1 u l, le-leb u 100 h));
+      state = or_true_right (leb 4 states) _ (and_true _ _ (le-leb _ u (omega (arith, l))) (le-leb u _ (omega (arith, h))));
       flag = omega arith;
       size = omega arith;
       empty = refl;
