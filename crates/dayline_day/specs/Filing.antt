@@ -47,7 +47,7 @@ pub record Fed (run s : List ℕ) (t : Tally) (p : Progress) (store : List ℕ) 
 pub record Feeds (s : List ℕ) (p : Progress) (store : List ℕ) (p' : Progress) (store' : List ℕ) : Type 0 where
   pub fed : (run : List ℕ) → Under run p → Fed run s (record { store = store; refused = p.refused }) p' store'
 
--- the same with another word on whether all of it is blank
+-- what the code has of a report, but for whether all of it is blank, which is said anew
 abbrev pub marked : Bool → Progress → Progress
 marked c p = record { kept = p.kept; blank = c; refused = p.refused }
 
